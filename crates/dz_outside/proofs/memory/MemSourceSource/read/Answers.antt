@@ -1,0 +1,10 @@
+use Rattle.std.proofs.Common.{arith}
+use Rattle.dz_outside.proofs.Pieces.{piece_read}
+use Rattle.dz_outside.proofs.memory.MemSourceSource.read.Goals as goal
+
+pub returns-clause-bytes : goal.returns-clause-bytes
+returns-clause-bytes c =
+    let source = c.self.inside in
+    let moved = rw c.deref-2.ensures.value at
+    (piece_read c.deref-2.result.now c.args.into.now c.copy_from_slice.new.self source.at source.most c.min-count.result c.self.invariant.1 (omega arith) c.copy_from_slice.ensures.after) in
+    (rw (← c.self.view_is) moved.0, moved.1)
