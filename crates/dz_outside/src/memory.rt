@@ -48,6 +48,7 @@ impl Model for MemSource {
 }
 
 impl MemSource {
+    /// A source of these bytes. `most` is at least 1. It takes no memory.
     pub fn new(bytes: Vec<u8>, most: usize, fails: Vec<u32>) -> MemSource
         requires { 0 < most }
         ensures { result ≡ record {
@@ -141,7 +142,7 @@ impl Model for MemSink {
 }
 
 impl MemSink {
-    /// Reserves the room, so that no write takes memory.
+    /// An empty sink. It reserves the room, so no write takes memory, and errs only where the room is not to be had.
     pub fn new(
         alloc: Global,
         room: usize,

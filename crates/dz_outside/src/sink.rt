@@ -59,7 +59,8 @@ impl From<Failed> for WriteStop {
     }
 }
 
-/// Writes all the bytes, in as many pieces as the sink wants.
+/// Writes all the bytes, in as many pieces as the sink wants. At an error the sink has taken some first ones of them, and
+/// not all. It takes no memory of its own.
 pub fn write_all<K: Sink>(sink: &mut K, bytes: &[u8]) -> Result<(), WriteStop>
     ensures ok { OnOk result (Appends (K.written sink.old) (K.written sink.new) bytes.now) }
     ensures err { OnErr result (AppendsPart (K.written sink.old) (K.written sink.new) bytes.now) }

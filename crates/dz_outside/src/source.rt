@@ -64,8 +64,9 @@ impl From<Failed> for ReadStop {
 // The most bytes that one read asks for.
 const PIECE: usize = 4096;
 
-/// Reads to the end of the source, and answers the bytes, at most `limit` of them. It stops with `TooLong` at the
-/// byte after the limit. Each read but the last takes a byte, so it makes at most `limit + 2` reads.
+/// Reads to the end of the source, and answers its bytes, at most `limit` of them. It answers `TooLong` where the source
+/// gave the byte after the limit, and then `limit + 1` bytes are taken; at the other errors at most `limit` are. Each
+/// read but the last takes a byte, so it makes at most `limit + 2` reads.
 pub fn read_all<S: Source>(alloc: Global, source: &mut S, limit: usize) -> Result<Vec<u8>, ReadStop>
     requires { limit < usize.MAX }
     ensures all { IfOk result (λ all. Consumes (S.rest source.old) (S.rest source.new) all.items) }

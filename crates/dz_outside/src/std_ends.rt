@@ -26,6 +26,7 @@ impl<R: Read> Model for StdSource<R> {
 }
 
 impl<R: Read> StdSource<R> {
+    /// A source over this reader, with no fault so far.
     pub fn new(reader: R) -> StdSource<R>
         ensures { result ≡ record { left = R.remaining reader; faults = 0 } }
     {
@@ -76,6 +77,7 @@ impl<W: Write> Model for StdSink<W> {
 }
 
 impl<W: Write> StdSink<W> {
+    /// A sink over this writer, with no fault and no stall so far.
     pub fn new(writer: W) -> StdSink<W>
         ensures { result ≡ record { held = W.contents writer; faults = 0; stalls = 0 } }
     {
