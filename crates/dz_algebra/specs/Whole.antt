@@ -4,6 +4,7 @@ use Rattle.std.proofs.Common.{sym, ap, ◌∙◌, arith, inl, inr}
 use Rattle.std.proofs.lemmas.Int.{ints}
 use borrow.Author.Differences.{up, down, same_in, product_is, sum_is_lem}
 use Rattle.std.proofs.Math.IntN.{+ℤ_comm, +ℤ_assoc, +ℤ_idl, +ℤ_invl, *ℤ_comm}
+use Rattle.dz_algebra.specs.Ring.{Ring}
 use Rattle.dz_algebra.specs.Domain.{Arithmetic, Operations, DomainLaws, copies}
 
 -- the test for zero
@@ -105,4 +106,18 @@ whole_laws = record {
   derivative_of_sum = λ i a b h. absurd (omega arith);
   derivative_of_product = λ i a b h. absurd (omega arith);
   derivatives_commute = λ i j a h. absurd (omega arith);
+}
+
+-- the ring of whole numbers, of any size
+abbrev pub whole_ring : Ring ℤ
+whole_ring = record {
+  arithmetic = whole_arithmetic;
+  sum_commutes = λ a b. whole_laws.sum_commutes a b refl refl;
+  sum_associates = λ a b c. whole_laws.sum_associates a b c refl refl refl;
+  zero_is_neutral = λ a. whole_laws.zero_is_neutral a refl;
+  negative_is_inverse = λ a. whole_laws.negative_is_inverse a refl;
+  product_commutes = λ a b. whole_laws.product_commutes a b refl refl;
+  product_associates = λ a b c. whole_laws.product_associates a b c refl refl refl;
+  one_is_neutral = λ a. whole_laws.one_is_neutral a refl;
+  product_distributes = λ a b c. whole_laws.product_distributes a b c refl refl refl;
 }

@@ -1,0 +1,10 @@
+pub mod Orders
+pub mod Canonical
+pub mod Monomials
+pub mod Totals
+pub mod Products
+pub mod PolynomialRing
+pub mod Values
+pub mod Norms
+pub mod Nonzero
+pub mod Gathers
