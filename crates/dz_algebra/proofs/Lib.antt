@@ -8,3 +8,5 @@ pub mod Values
 pub mod Norms
 pub mod Nonzero
 pub mod Gathers
+pub mod Operations
+pub mod MonomialOrder
