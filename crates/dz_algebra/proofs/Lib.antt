@@ -5,8 +5,14 @@ pub mod Totals
 pub mod Products
 pub mod PolynomialRing
 pub mod Values
+pub mod Homomorphisms
+pub mod DerivativeValues
 pub mod Norms
 pub mod Nonzero
 pub mod Gathers
 pub mod Operations
 pub mod MonomialOrder
+pub mod Generic
+pub mod DualNumbers
+pub mod Commuting
+pub mod Derivations

@@ -13,7 +13,9 @@ use Rattle.dz_algebra.specs.Monomial.{Monomial, monomial_cmp, IsMonomial, expone
 use Rattle.dz_algebra.specs.Polynomial.{Polynomial, IsPolynomial, PolynomialIn}
 use Rattle.dz_algebra.specs.Order.{IsOrder, IsAbove}
 use Rattle.dz_algebra.specs.Value.{whole_in, power, monomial_value, value}
-use Rattle.dz_algebra.proofs.Values.{whole_in-+ℤ, whole_in-*ℤ, derivative_power, derivative_one, derivative_whole, derivative_zero}
+use Rattle.dz_algebra.proofs.Values.{whole_in-+ℤ, whole_in-*ℤ}
+use Rattle.dz_algebra.proofs.Homomorphisms.{identity}
+use Rattle.dz_algebra.proofs.DerivativeValues.{derivative_power, derivative_one, derivative_whole, derivative_zero}
 use Rattle.dz_algebra.proofs.Orders.{monomial_cmp_total, greater_reversed, greater_trans}
 use Rattle.std.specs.Ordering.{match_ordering}
 
@@ -39,7 +41,7 @@ module _ {R S : Type 0} (r : Ring R) (cmp : S → S → Ordering) (order : IsOrd
   w c = whole_in r.arithmetic c
 
   euler_power : (s t : S) (h : P s) (g : P t) (e : ℕ) → r.product (at s) (d s h (power r.arithmetic (at t) e)) ≡ r.product (whole_in r.arithmetic (pos (match_ordering (cmp s t) 0 e 0))) (power r.arithmetic (at t) e)
-  euler_power s t h g zero = ap (r.product (at s)) (derivative_one r cmp order.same at (d s h) (additive s h) (leibniz s h)) ∙ product_zero r _ ∙ sym (ap (λ k. r.product (whole_in r.arithmetic (pos k)) r.one) (nothing (cmp s t)) ∙ zero_product r _)
+  euler_power s t h g zero = ap (r.product (at s)) (derivative_one r r (λ x. x) (identity r) (d s h) (additive s h) (leibniz s h)) ∙ product_zero r _ ∙ sym (ap (λ k. r.product (whole_in r.arithmetic (pos k)) r.one) (nothing (cmp s t)) ∙ zero_product r _)
     where
       nothing : (o : Ordering) → ◌≡◌ {A = ℕ} (match_ordering o 0 0 0) 0
       nothing Less = refl
@@ -54,7 +56,7 @@ module _ {R S : Type 0} (r : Ring R) (cmp : S → S → Ordering) (order : IsOrd
       k = whole_in r.arithmetic (pos (suc e))
 
       is_power : d s h (power r.arithmetic (at t) (suc e)) ≡ r.product (whole_in r.arithmetic (pos (suc e))) (r.product (power r.arithmetic (at t) e) (d s h (at t)))
-      is_power = derivative_power r cmp order.same at (d s h) (additive s h) (leibniz s h) (at t) e
+      is_power = derivative_power r r (λ x. x) (identity r) (d s h) (additive s h) (leibniz s h) (at t) e
 
       none : d s h (at t) ≡ r.zero → r.product (at s) (d s h (power r.arithmetic (at t) (suc e))) ≡ r.product r.zero (power r.arithmetic (at t) (suc e))
       none f = ap (r.product (at s)) (is_power ∙ ap (r.product (whole_in r.arithmetic (pos (suc e)))) (ap (r.product (power r.arithmetic (at t) e)) f ∙ product_zero r _) ∙ product_zero r _) ∙ product_zero r _ ∙ sym (zero_product r _)
@@ -74,7 +76,7 @@ module _ {R S : Type 0} (r : Ring R) (cmp : S → S → Ordering) (order : IsOrd
   split Greater e n = omega arith
 
   euler_monomial : (s : S) (h : P s) (m : Monomial S) → MonomialIn P m → r.product (at s) (d s h (monomial_value r.arithmetic at m)) ≡ r.product (whole_in r.arithmetic (pos (exponent cmp s m))) (monomial_value r.arithmetic at m)
-  euler_monomial s h [] g = ap (r.product (at s)) (derivative_one r cmp order.same at (d s h) (additive s h) (leibniz s h)) ∙ product_zero r _ ∙ sym (zero_product r _)
+  euler_monomial s h [] g = ap (r.product (at s)) (derivative_one r r (λ x. x) (identity r) (d s h) (additive s h) (leibniz s h)) ∙ product_zero r _ ∙ sym (zero_product r _)
   euler_monomial s h (p ∷ m) g =
       let x = power r.arithmetic (at p.0) p.1 in
       let y = monomial_value r.arithmetic at m in
@@ -99,7 +101,7 @@ module _ {R S : Type 0} (r : Ring R) (cmp : S → S → Ordering) (order : IsOrd
       let n = w (pos (exponent cmp s m)) in
       let j = w (neg_ℤ (pos k)) in
       let rate : d s h (r.product a y) ≡ r.product a (d s h y) =
-      leibniz s h a y ∙ ap (λ u. r.sum u (r.product a (d s h y))) (ap (λ u. r.product u y) (derivative_whole r cmp order.same at (d s h) (additive s h) (leibniz s h) c) ∙ zero_product r y) ∙ r.zero_is_neutral _ in
+      leibniz s h a y ∙ ap (λ u. r.sum u (r.product a (d s h y))) (ap (λ u. r.product u y) (derivative_whole r r (λ x. x) (identity r) (d s h) (additive s h) (leibniz s h) c) ∙ zero_product r y) ∙ r.zero_is_neutral _ in
       let moved : r.product (at s) (d s h (r.product a y)) ≡ r.product a (r.product n y) = ap (r.product (at s)) rate ∙ product_swaps r _ _ _ ∙ ap (r.product a) (euler_monomial s h m g) in
       ap (λ u. r.product u y) (whole_in-*ℤ r c (pos (exponent cmp s m) +ℤ neg_ℤ (pos k)) ∙ ap (r.product a) (whole_in-+ℤ r (pos (exponent cmp s m)) (neg_ℤ (pos k))))
       ∙ r.product_associates _ _ _ ∙ ap (r.product a) (sum_times r n j y) ∙ r.product_distributes a (r.product n y) (r.product j y) ∙ ap₂ r.sum (sym moved) (product_swaps r _ _ _)
@@ -111,7 +113,7 @@ module _ {R S : Type 0} (r : Ring R) (cmp : S → S → Ordering) (order : IsOrd
       → value_of (changed (λ m c. weighed s k m (f m c)) p) ≡ r.sum (r.product (at s) (d s h (value_of (changed f p)))) (r.product (w (neg_ℤ (pos k))) (value_of (changed f p)))
   unfolding value_of changed
   euler_value s h k f [] g =
-      sym (ap₂ r.sum (ap (r.product (at s)) (derivative_zero r cmp order.same at (d s h) (additive s h) (leibniz s h)) ∙ product_zero r _) (product_zero r _) ∙ r.zero_is_neutral _)
+      sym (ap₂ r.sum (ap (r.product (at s)) (derivative_zero r r (λ x. x) (identity r) (d s h) (additive s h) (leibniz s h)) ∙ product_zero r _) (product_zero r _) ∙ r.zero_is_neutral _)
   euler_value s h k f (t ∷ p) g =
       let x = r.product (w (f t.0 t.1)) (monomial_value r.arithmetic at t.0) in
       let y = value r.arithmetic at (changed f p) in
@@ -126,7 +128,7 @@ module _ {R S : Type 0} (r : Ring R) (cmp : S → S → Ordering) (order : IsOrd
 
   symbol_not_zero : (s : S) → P s → at s ≢ r.zero
   symbol_not_zero s h e =
-      one_not_zero (sym (rates s h s h ∙ ap (λ o. match_ordering o r.zero r.one r.zero) (tied s)) ∙ ap (d s h) e ∙ derivative_zero r cmp order.same at (d s h) (additive s h) (leibniz s h))
+      one_not_zero (sym (rates s h s h ∙ ap (λ o. match_ordering o r.zero r.one r.zero) (tied s)) ∙ ap (d s h) e ∙ derivative_zero r r (λ x. x) (identity r) (d s h) (additive s h) (leibniz s h))
 
   power_not_zero : (s : S) → P s → (e : ℕ) → power r.arithmetic (at s) e ≢ r.zero
   power_not_zero s h zero f = one_not_zero f
@@ -188,7 +190,7 @@ module _ {R S : Type 0} (r : Ring R) (cmp : S → S → Ordering) (order : IsOrd
       weighed_zero : (s : S) (h : P s) → value_of (changed (λ m c. weighed s (exponent cmp s t.0) m (f m c)) (t ∷ p)) ≡ r.zero
       weighed_zero s h =
           euler_value s h (exponent cmp s t.0) f (t ∷ p) g
-          ∙ ap₂ r.sum (ap (λ x. r.product (at s) (d s h x)) e ∙ ap (r.product (at s)) (derivative_zero r cmp order.same at (d s h) (additive s h) (leibniz s h)) ∙ product_zero r _) (ap (r.product (whole_in r.arithmetic (neg_ℤ (pos (exponent cmp s t.0))))) e ∙ product_zero r _) ∙ r.zero_is_neutral _
+          ∙ ap₂ r.sum (ap (λ x. r.product (at s) (d s h x)) e ∙ ap (r.product (at s)) (derivative_zero r r (λ x. x) (identity r) (d s h) (additive s h) (leibniz s h)) ∙ product_zero r _) (ap (r.product (whole_in r.arithmetic (neg_ℤ (pos (exponent cmp s t.0))))) e ∙ product_zero r _) ∙ r.zero_is_neutral _
 
       rest_zero : (s : S) (h : P s) → value_of (changed (λ m c. weighed s (exponent cmp s t.0) m (f m c)) p) ≡ r.zero
       rest_zero s h =

@@ -48,7 +48,7 @@ module _ {S : Type 0} {cmp : S → S → Ordering} (order : IsOrder cmp) where
   negated_is [] h = tt
   negated_is (t ∷ p) h = (still_nonzero t.1 h.0, h.1, negated_above t.0 p h.2, negated_is p h.3)
 
-  total_negated : (f : Monomial S → ℤ) (p : Polynomial S) → total f (negated p) +ℤ total f p ≡ pos 0
+  pub total_negated : (f : Monomial S → ℤ) (p : Polynomial S) → total f (negated p) +ℤ total f p ≡ pos 0
   unfolding total
   total_negated f [] = refl
   total_negated f (t ∷ p) = cancelled (t.1 *ℤ f t.0) (total f (negated p)) (total f p) (neg_ℤ t.1 *ℤ f t.0) (opposite t.1 (f t.0)) (total_negated f p)

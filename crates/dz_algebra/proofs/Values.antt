@@ -1,4 +1,4 @@
--- The value of a polynomial at a point is a homomorphism.
+-- The value of a polynomial: that of contributions collected, of a sum and of a product.
 use Rattle.std.proofs.Common.{◌≡◌, ℕ, zero, suc, ◌+◌, ◌-◌, ◌*◌, Bool, true, false, cond, List, [], ◌∷◌, ◌++◌, ℤ, pos, negsuc, ◌+ℤ◌, ◌*ℤ◌, neg_ℤ, refl, sym, ap, ap₂, ◌∙◌, arith, ltb, ltb-true, ltb-false}
 use Rattle.std.specs.declared.cmp.Ordering.{Ordering}
 use Rattle.std.specs.declared.cmp.Ordering.TheVariants.{Less, Equal, Greater}
@@ -34,7 +34,7 @@ module _ {R : Type 0} (r : Ring R) where
   difference : ℕ → ℕ → R
   difference m n = r.sum (copies r.arithmetic m r.one) (r.negative (copies r.arithmetic n r.one))
 
-  plus_minus : (a : R) → r.sum a (r.negative a) ≡ r.zero
+  pub plus_minus : (a : R) → r.sum a (r.negative a) ≡ r.zero
   plus_minus a = r.sum_commutes a _ ∙ r.negative_is_inverse a
 
   whole_in-difference : (k m n : ℕ) (z : ℤ) → z ≡ pos m → k ≡ m + n → whole_in r.arithmetic z ≡ difference k n
@@ -89,7 +89,7 @@ module _ {R : Type 0} (r : Ring R) where
   whole_in_zero (pos (suc n)) e = cc
   whole_in_zero (negsuc n) e = cc
 
-  moved : (c k y m x : R) → r.product (r.product (r.product c k) (r.product y m)) x ≡ r.product c (r.product (r.product k (r.product y x)) m)
+  pub moved : (c k y m x : R) → r.product (r.product (r.product c k) (r.product y m)) x ≡ r.product c (r.product (r.product k (r.product y x)) m)
   moved c k y m x = simp (r.product_associates, r.product_commutes, product_swaps r)
 
   -- powers
@@ -156,81 +156,3 @@ module _ {R : Type 0} (r : Ring R) where
     unfolding term
     pairs_value [] q = sym (zero_product r _)
     pairs_value (t ∷ p) q = value-append _ _ ∙ ap₂ r.sum (term_times_value t.0 t.1 q) (pairs_value p q) ∙ sym (sum_times r _ _ _)
-
-    -- derivations
-    module _ (d : R → R) (additive : (a b : R) → d (r.sum a b) ≡ r.sum (d a) (d b)) (leibniz : (a b : R) → d (r.product a b) ≡ r.sum (r.product (d a) b) (r.product a (d b))) where
-      pub derivative_zero : d r.zero ≡ r.zero
-      derivative_zero = cancels r (d r.zero) _ _ (sym (additive r.zero r.zero) ∙ ap d (r.zero_is_neutral r.zero) ∙ sym (right_neutral r _))
-
-      pub derivative_one : d r.one ≡ r.zero
-      derivative_one = cancels r (d r.one) _ _ (ap (r.sum (d r.one)) (sym (r.one_is_neutral _)) ∙ ap (λ x. r.sum x (r.product r.one (d r.one))) (sym (r.one_is_neutral _) ∙ r.product_commutes _ _) ∙ sym (leibniz r.one r.one) ∙ ap d (r.one_is_neutral r.one) ∙ sym (right_neutral r _))
-
-      derivative_copies : (n : ℕ) → d (copies r.arithmetic n r.one) ≡ r.zero
-      derivative_copies zero = derivative_zero
-      derivative_copies (suc n) = additive _ _ ∙ ap₂ r.sum derivative_one (derivative_copies n) ∙ r.zero_is_neutral _
-
-      pub derivative_whole : (c : ℤ) → d (whole_in r.arithmetic c) ≡ r.zero
-      derivative_whole (pos n) = derivative_copies n
-      derivative_whole (negsuc n) = sym (r.zero_is_neutral _) ∙ ap (λ x. r.sum x (d (whole_in r.arithmetic (negsuc n)))) (sym (derivative_copies (suc n))) ∙ sym (additive _ _) ∙ ap d (plus_minus _) ∙ derivative_zero
-
-      -- d(x^(e+1)) = (e + 1) x^e dx
-      pub derivative_power : (x : R) (e : ℕ) → d (power r.arithmetic x (suc e)) ≡ r.product (whole_in r.arithmetic (pos (suc e))) (r.product (power r.arithmetic x e) (d x))
-      derivative_power x zero =
-          leibniz x r.one ∙ ap (r.sum (r.product (d x) r.one)) (ap (r.product x) derivative_one ∙ product_zero r x) ∙ right_neutral r _ ∙ r.product_commutes _ _
-          ∙ sym (ap (λ y. r.product y (r.product r.one (d x))) (right_neutral r r.one) ∙ r.one_is_neutral _)
-      derivative_power x (suc e) =
-          let k = whole_in r.arithmetic (pos (suc e)) in
-          let y = power r.arithmetic x e in
-          let step : r.product x (d (power r.arithmetic x (suc e))) ≡ r.product k (r.product (r.product x y) (d x)) = ap (r.product x) (derivative_power x e) ∙ product_swaps r _ _ _ ∙ ap (r.product k) (sym (r.product_associates _ _ _)) in
-          leibniz x (power r.arithmetic x (suc e)) ∙ ap₂ r.sum (r.product_commutes (d x) _ ∙ sym (r.one_is_neutral _)) step ∙ sym (sum_times r r.one k (r.product (r.product x y) (d x)))
-
-      module _ (rate : S → Rate S) where
-        times_rate_value : (x : Rate S) (m : Monomial S) (c : ℤ) → value r.arithmetic at (times_rate cmp x m c) ≡ r.product (term m c) (rate_value r.arithmetic at x)
-        unfolding term
-        times_rate_value constant m c = sym (product_zero r _)
-        times_rate_value unit m c = right_neutral r _ ∙ sym (r.product_commutes _ r.one ∙ r.one_is_neutral _)
-        times_rate_value (symbol t) m c = right_neutral r _ ∙ ap (r.product (whole_in r.arithmetic c)) (with_power_value t 1 m ∙ r.product_commutes _ _ ∙ ap (r.product (monomial_value r.arithmetic at m)) (r.product_commutes _ _ ∙ r.one_is_neutral _)) ∙ sym (r.product_associates _ _ _)
-
-        each_with_power_value : (s : S) (e : ℕ) (ts : List (Monomial S × ℤ)) → value r.arithmetic at (each_with_power cmp s e ts) ≡ r.product (power r.arithmetic (at s) e) (value r.arithmetic at ts)
-        each_with_power_value s e [] = sym (product_zero r _)
-        each_with_power_value s e (t ∷ ts) = ap₂ r.sum (ap (r.product (whole_in r.arithmetic t.1)) (with_power_value s e t.0) ∙ product_swaps r _ _ _) (each_with_power_value s e ts) ∙ sym (r.product_distributes _ _ _)
-
-        module _ (rates : (s : S) → d (at s) ≡ rate_value r.arithmetic at (rate s)) where
-          -- the first factor's share of a term's derivative
-          power_share : (s : S) (e : ℕ) (m : Monomial S) (c : ℤ) → r.product (term (once_less s e m) (c *ℤ pos e)) (rate_value r.arithmetic at (rate s)) ≡ r.product (whole_in r.arithmetic c) (r.product (d (power r.arithmetic (at s) e)) (monomial_value r.arithmetic at m))
-          unfolding term
-          power_share s zero m c =
-              let zero_coefficient : r.product (whole_in r.arithmetic (c *ℤ pos 0)) (monomial_value r.arithmetic at m) ≡ r.zero = ap (λ x. r.product x (monomial_value r.arithmetic at m)) (whole_in-*ℤ c (pos 0) ∙ product_zero r _) ∙ zero_product r _ in
-              ap (λ x. r.product x (rate_value r.arithmetic at (rate s))) zero_coefficient ∙ zero_product r _ ∙ sym (ap (r.product (whole_in r.arithmetic c)) (ap (λ x. r.product x (monomial_value r.arithmetic at m)) derivative_one ∙ zero_product r _) ∙ product_zero r _)
-          power_share s (suc e) m c = power_share_more s e m c
-            where
-              less : (s : S) (e : ℕ) (m : Monomial S) → monomial_value r.arithmetic at (once_less s (suc e) m) ≡ r.product (power r.arithmetic (at s) e) (monomial_value r.arithmetic at m)
-              less s zero m = sym (r.one_is_neutral _)
-              less s (suc e) m = refl
-
-              power_share_more : (s : S) (e : ℕ) (m : Monomial S) (c : ℤ) → r.product (r.product (whole_in r.arithmetic (c *ℤ pos (suc e))) (monomial_value r.arithmetic at (once_less s (suc e) m))) (rate_value r.arithmetic at (rate s)) ≡ r.product (whole_in r.arithmetic c) (r.product (d (power r.arithmetic (at s) (suc e))) (monomial_value r.arithmetic at m))
-              power_share_more s e m c =
-                  ap₂ r.product (ap₂ r.product (whole_in-*ℤ c (pos (suc e))) (less s e m)) (sym (rates s))
-                  ∙ moved (whole_in r.arithmetic c) (whole_in r.arithmetic (pos (suc e))) (power r.arithmetic (at s) e) (monomial_value r.arithmetic at m) (d (at s))
-                  ∙ ap (λ x. r.product (whole_in r.arithmetic c) (r.product x (monomial_value r.arithmetic at m))) (sym (derivative_power (at s) e))
-
-          term_derivative_value : (m : Monomial S) (c : ℤ) → value r.arithmetic at (term_derivative cmp rate m c) ≡ r.product (whole_in r.arithmetic c) (d (monomial_value r.arithmetic at m))
-          unfolding term
-          term_derivative_value [] c = sym (ap (r.product _) derivative_one ∙ product_zero r _)
-          term_derivative_value (p ∷ m) c =
-              let c' = whole_in r.arithmetic c in
-              let x = power r.arithmetic (at p.0) p.1 in
-              let y = monomial_value r.arithmetic at m in
-              value-append _ _
-              ∙ ap₂ r.sum (times_rate_value (rate p.0) (once_less p.0 p.1 m) (c *ℤ pos p.1) ∙ power_share p.0 p.1 m c)
-              (each_with_power_value p.0 p.1 _ ∙ ap (r.product x) (term_derivative_value m c) ∙ product_swaps r _ _ _)
-              ∙ sym (r.product_distributes c' (r.product (d x) y) (r.product x (d y)))
-              ∙ ap (r.product c') (sym (leibniz x y))
-
-          pub derivative_value : (p : Polynomial S) → value r.arithmetic at (derivative_contributions cmp rate p) ≡ d (value r.arithmetic at p)
-          derivative_value [] = sym derivative_zero
-          derivative_value (t ∷ p) =
-              let c = whole_in r.arithmetic t.1 in
-              let y = monomial_value r.arithmetic at t.0 in
-              let constant_part : r.sum (r.product (d c) y) (r.product c (d y)) ≡ r.product c (d y) = ap (λ x. r.sum x (r.product c (d y))) (ap (λ x. r.product x y) (derivative_whole t.1) ∙ zero_product r y) ∙ r.zero_is_neutral _ in
-              value-append _ _ ∙ ap₂ r.sum (term_derivative_value t.0 t.1 ∙ sym constant_part ∙ sym (leibniz c y)) (derivative_value p) ∙ sym (additive _ _)
