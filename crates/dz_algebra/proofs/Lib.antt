@@ -7,7 +7,9 @@ pub mod PolynomialRing
 pub mod Values
 pub mod Homomorphisms
 pub mod DerivativeValues
+pub mod Divisors
 pub mod Norms
+pub mod NormLaws
 pub mod Nonzero
 pub mod Gathers
 pub mod Operations
