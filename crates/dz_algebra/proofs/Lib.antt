@@ -18,3 +18,4 @@ pub mod Generic
 pub mod DualNumbers
 pub mod Commuting
 pub mod Derivations
+pub mod DomainValues

@@ -7,7 +7,7 @@ use Rattle.dz_algebra.specs.Domain.{copies}
 use Rattle.dz_algebra.specs.Whole.{whole_is_zero}
 use Rattle.dz_algebra.specs.Ring.{Ring, sum_swaps, product_swaps, product_of_products, sum_times, right_neutral, cancels, product_zero, zero_product, negative_product, negative_sum, negative_negative, negative_zero}
 use Rattle.dz_algebra.specs.Monomial.{Monomial, with_power, monomial_product}
-use Rattle.dz_algebra.specs.Polynomial.{Polynomial, keep, add_term, collect, term_times, pairs}
+use Rattle.dz_algebra.specs.Polynomial.{Polynomial, keep, add_term, collect, term_times, pairs, negated}
 use Rattle.dz_algebra.specs.Derivation.{Rate, constant, unit, symbol, once_less, times_rate, each_with_power, term_derivative, derivative_contributions}
 use Rattle.dz_algebra.specs.Value.{whole_in, power, monomial_value, value, rate_value}
 use Rattle.std.specs.Ordering.{match_ordering}
@@ -156,3 +156,9 @@ module _ {R : Type 0} (r : Ring R) where
     unfolding term
     pairs_value [] q = sym (zero_product r _)
     pairs_value (t ∷ p) q = value-append _ _ ∙ ap₂ r.sum (term_times_value t.0 t.1 q) (pairs_value p q) ∙ sym (sum_times r _ _ _)
+
+    pub negated_value : (ts : List (Monomial S × ℤ)) → value r.arithmetic at (negated ts) ≡ r.negative (value r.arithmetic at ts)
+    negated_value [] = sym (negative_zero r)
+    negated_value (t ∷ ts) =
+        ap₂ r.sum (ap (λ x. r.product x (monomial_value r.arithmetic at t.0)) (whole_in-neg t.1) ∙ negative_product r _ _) (negated_value ts)
+        ∙ sym (negative_sum r _ _)
