@@ -5,7 +5,7 @@ use Rattle.dz_algebra.specs.Ring.{Ring}
 use Rattle.dz_algebra.specs.Order.{IsOrder, IsAbove}
 use Rattle.dz_algebra.specs.Monomial.{Monomial, IsMonomial, monomial_cmp, with_power}
 use Rattle.dz_algebra.specs.Polynomial.{Polynomial, Contributions, IsPolynomial, AreMonomials, collect, pairs, symbol_polynomial, polynomial_one, polynomial_sum, polynomial_product}
-use Rattle.dz_algebra.specs.Derivation.{Rate, constant, unit, symbol, once_less, times_rate, each_with_power, term_derivative, derivative_contributions, polynomial_derivative, rate_again, RatesCommute}
+use Rattle.dz_algebra.specs.Derivation.{Rate, constant, unit, symbol, once_less, times_rate, each_with_power, term_derivative, derivative_contributions, polynomial_derivative, rate_again, rate_polynomial, RatesCommute}
 use Rattle.dz_algebra.specs.Value.{value, rate_value}
 use Rattle.dz_algebra.proofs.Orders.{same_monomial}
 use Rattle.dz_algebra.proofs.Monomials.{with_power_is}
@@ -95,20 +95,25 @@ module _ {S : Type 0} {cmp : S → S → Ordering} (order : IsOrder cmp) where
     is_derivation = record { additive = additive; leibniz = leibniz }
 
     -- the derivative of a symbol is its rate
-    derivative_of_symbol : (s : S) → polynomial_derivative cmp rate (symbol_polynomial s) ≡ (rate_value R.arithmetic (itself order) (rate s)).0
+    pub derivative_of_symbol : (s : S) → polynomial_derivative cmp rate (symbol_polynomial s) ≡ rate_polynomial (rate s)
     unfolding polynomial_derivative polynomial_one
     derivative_of_symbol s = by_rate (rate s)
       where
-        by_rate : (x : Rate S) → collect (monomial_cmp cmp) ((times_rate cmp x [] (pos 1 *ℤ pos 1) ++ []) ++ []) ≡ (rate_value R.arithmetic (itself order) x).0
+        by_rate : (x : Rate S) → collect (monomial_cmp cmp) ((times_rate cmp x [] (pos 1 *ℤ pos 1) ++ []) ++ []) ≡ rate_polynomial x
         by_rate constant = refl
         by_rate unit = refl
         by_rate (symbol t) = refl
+
+    rate_itself : (x : Rate S) → rate_polynomial x ≡ (rate_value R.arithmetic (itself order) x).0
+    rate_itself constant = refl
+    rate_itself unit = refl
+    rate_itself (symbol t) = refl
 
     derivative_of_rate : (x : Rate S) → differentiated (rate_value R.arithmetic (itself order) x) ≡ rate_value R.arithmetic (itself order) (rate_again rate x)
     unfolding polynomial_derivative polynomial_one
     derivative_of_rate constant = same_canonical order _ _ refl
     derivative_of_rate unit = same_canonical order _ _ refl
-    derivative_of_rate (symbol t) = same_canonical order _ _ (derivative_of_symbol t)
+    derivative_of_rate (symbol t) = same_canonical order _ _ (derivative_of_symbol t ∙ rate_itself (rate t))
 
   -- derivations that commute at symbols commute
   pub derivatives_commute : (first second : S → Rate S) → RatesCommute first second → (p : Canonical order) → differentiated first (differentiated second p) ≡ differentiated second (differentiated first p)
@@ -118,7 +123,7 @@ module _ {S : Type 0} {cmp : S → S → Ordering} (order : IsOrder cmp) where
       ∙ ap (λ q. differentiated second (differentiated first q)) (own_value p)
     where
       taken : (rate : S → Rate S) (s : S) → differentiated rate (itself order s) ≡ rate_value R.arithmetic (itself order) (rate s)
-      taken rate s = same_canonical order _ _ (derivative_of_symbol rate s)
+      taken rate s = same_canonical order _ _ (derivative_of_symbol rate s ∙ rate_itself rate (rate s))
 
       at_symbols : (s : S) → differentiated first (differentiated second (itself order s)) ≡ differentiated second (differentiated first (itself order s))
       at_symbols s =

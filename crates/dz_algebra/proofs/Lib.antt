@@ -19,3 +19,4 @@ pub mod DualNumbers
 pub mod Commuting
 pub mod Derivations
 pub mod DomainValues
+pub mod LawProofs

@@ -3,13 +3,19 @@ use Rattle.std.specs.Prelude.{◌≡◌, ℕ, zero, suc, [], ◌∷◌, ◌++◌
 use Rattle.std.specs.declared.cmp.Ordering.{Ordering}
 use Rattle.std.specs.Ordering.{match_ordering}
 use Rattle.dz_algebra.specs.Monomial.{Monomial, with_power, monomial_cmp}
-use Rattle.dz_algebra.specs.Polynomial.{Polynomial, Contributions, collect}
+use Rattle.dz_algebra.specs.Polynomial.{Polynomial, Contributions, collect, polynomial_one, symbol_polynomial}
 
 -- what a derivation makes of a symbol: zero, one, or a symbol
 pub data Rate (S : Type 0) : Type 0 where
   constant : Rate S
   unit : Rate S
   symbol : S → Rate S
+
+-- what a derivation makes of a symbol, as a polynomial
+abbrev pub rate_polynomial : {S : Type 0} → Rate S → Polynomial S
+rate_polynomial constant = []
+rate_polynomial unit = polynomial_one
+rate_polynomial (symbol t) = symbol_polynomial t
 
 -- the partial derivative by v: v itself goes to one, every other symbol to zero
 abbrev pub rate_by : {S : Type 0} → (S → S → Ordering) → S → S → Rate S

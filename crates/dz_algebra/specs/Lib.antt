@@ -12,3 +12,4 @@ pub mod Gather
 pub mod Amount
 pub mod Size
 pub mod Value
+pub mod Laws

@@ -5,6 +5,8 @@
 //! them. Crates above cite the definitions in their contracts.
 #![tactic(auto)]
 
+pub mod laws;
+
 /// What may grow too large.
 ///
 /// The first four are limits of one operation on polynomials, told in this order. The last three
