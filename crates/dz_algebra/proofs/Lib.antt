@@ -20,3 +20,4 @@ pub mod Commuting
 pub mod Derivations
 pub mod DomainValues
 pub mod LawProofs
+pub mod ExampleProofs

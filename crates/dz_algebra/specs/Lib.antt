@@ -13,3 +13,4 @@ pub mod Amount
 pub mod Size
 pub mod Value
 pub mod Laws
+pub mod Examples

@@ -10,6 +10,7 @@ ghost use Rattle.dz_algebra.specs.Polynomial.{Polynomial, IsPolynomial, Polynomi
 ghost use Rattle.dz_algebra.specs.Derivation.{Rate, RatesCommute, polynomial_derivative};
 ghost use Rattle.dz_algebra.specs.Symbols.{Symbols};
 ghost use Rattle.dz_algebra.specs.Value.{value};
+ghost use Rattle.dz_algebra.specs.Examples.{DerivationExamples, OperationExamples};
 ghost use Rattle.dz_algebra.specs.Laws.{
     CoefficientLaws, ClosureLaws, RingLaws, DerivationLaws, NormLaws, OperationLaws, ValueLaws, AreIndependent
 };
@@ -62,6 +63,16 @@ pub fn norm_is_unique<S>()
 #[tactic(auto, using(crate::proofs::LawProofs::operation_laws))]
 pub fn operations_answer_polynomials<S>()
     ensures { (g : Symbols S) → IsOrder g.cmp → OperationLaws g }
+{}
+
+/// The definitions answer worked examples as they were computed by hand.
+#[tactic(auto, using(
+    crate::proofs::ExampleProofs::derivation_examples,
+    crate::proofs::ExampleProofs::operation_examples,
+))]
+pub fn worked_examples()
+    ensures derivation { DerivationExamples }
+    ensures operation { OperationExamples }
 {}
 
 /// The value of a sum is the sum of the values, and so for products and derivatives.
