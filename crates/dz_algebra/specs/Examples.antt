@@ -8,7 +8,7 @@ use Rattle.dz_algebra.specs.Monomial.{Monomial}
 use Rattle.dz_algebra.specs.Polynomial.{Polynomial, pairs, polynomial_sum, polynomial_difference, polynomial_product}
 use Rattle.dz_algebra.specs.Derivation.{Rate, constant, unit, symbol, polynomial_derivative}
 use Rattle.dz_algebra.specs.Symbols.{Symbols}
-use Rattle.dz_algebra.specs.Parts.{is_ground, leader, initial, separant}
+use Rattle.dz_algebra.specs.Parts.{leader, initial, separant}
 use Rattle.dz_algebra.specs.Norm.{norm}
 use Rattle.dz_algebra.specs.Size.{support, Refusal, wide, large, sum_answer, difference_answer}
 
@@ -96,31 +96,27 @@ pub record DerivationExamples : Type 0 where
   -- the derivative of u[x]^2 - 4*u by x is 2*u[x]*u[x,x] - 4*u[x]
   pub conic_by_x : polynomial_derivative letter_cmp (letter_rate 0) conic ≡ ((u_xx, 1) ∷ (u_x, 1) ∷ [], pos 2) ∷ ((u_x, 1) ∷ [], minus 4) ∷ []
   -- that of x*u by x is x*u[x] + u, and that by y is x*u[y]
-  pub product_by_x : polynomial_derivative letter_cmp (letter_rate 0) mixed ≡ ((u_x, 1) ∷ (x, 1) ∷ [], pos 1) ∷ ((u, 1) ∷ [], pos 1) ∷ []
-  pub product_by_y : polynomial_derivative letter_cmp (letter_rate 1) mixed ≡ ((u_y, 1) ∷ (x, 1) ∷ [], pos 1) ∷ []
+  pub mixed_by_x : polynomial_derivative letter_cmp (letter_rate 0) mixed ≡ ((u_x, 1) ∷ (x, 1) ∷ [], pos 1) ∷ ((u, 1) ∷ [], pos 1) ∷ []
+  pub mixed_by_y : polynomial_derivative letter_cmp (letter_rate 1) mixed ≡ ((u_y, 1) ∷ (x, 1) ∷ [], pos 1) ∷ []
   -- u[x]^2 - 4*u has the leader u[x], the initial 1 and the separant 2*u[x]
   pub leader_of_conic : leader letters conic ≡ Some u_x
   pub initial_of_conic : initial letter_cmp u_x conic ≡ ([], pos 1) ∷ []
   pub separant_of_conic : separant letter_cmp u_x conic ≡ ((u_x, 1) ∷ [], pos 2) ∷ []
-  -- no derivative occurs in x, one occurs in u[x]^2 - 4*u
-  pub ground_x : is_ground letters (((x, 1) ∷ [], pos 1) ∷ []) ≡ true
-  pub ground_conic : is_ground letters conic ≡ false
   -- the norm of -6*u + 4 is 3*u - 2
   pub norm_of_line : norm line ≡ ((u, 1) ∷ [], pos 3) ∷ ([], minus 2) ∷ []
 
 -- contributions, size and fitting
 pub record OperationExamples : Type 0 where
-  -- the product of u + x and u - x has four contributions at three monomials, of which two cancel
-  pub contributions : pairs letter_cmp plus_x minus_x ≡ ((u, 2) ∷ [], pos 1) ∷ ((u, 1) ∷ (x, 1) ∷ [], minus 1) ∷ ((u, 1) ∷ (x, 1) ∷ [], pos 1) ∷ ((x, 2) ∷ [], minus 1) ∷ []
-  pub product : polynomial_product letter_cmp plus_x minus_x ≡ ((u, 2) ∷ [], pos 1) ∷ ((x, 2) ∷ [], minus 1) ∷ []
-  pub product_support : support letter_cmp (pairs letter_cmp plus_x minus_x) ≡ ((u, 2) ∷ []) ∷ ((u, 1) ∷ (x, 1) ∷ []) ∷ ((x, 2) ∷ []) ∷ []
+  -- the product of u + x and u - x has four contributions, and is u^2 - x^2
+  pub cancelling : (pairs letter_cmp plus_x minus_x ≡ ((u, 2) ∷ [], pos 1) ∷ ((u, 1) ∷ (x, 1) ∷ [], minus 1) ∷ ((u, 1) ∷ (x, 1) ∷ [], pos 1) ∷ ((x, 2) ∷ [], minus 1) ∷ [])
+    × (polynomial_product letter_cmp plus_x minus_x ≡ ((u, 2) ∷ [], pos 1) ∷ ((x, 2) ∷ [], minus 1) ∷ [])
+  -- its support has three monomials, with that at which the contributions cancel
+  pub kept : support letter_cmp (pairs letter_cmp plus_x minus_x) ≡ ((u, 2) ∷ []) ∷ ((u, 1) ∷ (x, 1) ∷ []) ∷ ((x, 2) ∷ []) ∷ []
   -- the difference of u + x^65536 and x^65536 is u, and is large by the exponent
-  pub steep_difference : polynomial_difference letter_cmp steep (((x, 65536) ∷ [], pos 1) ∷ []) ≡ times_u (pos 1)
-  pub steep_is_large : difference_answer letters steep (((x, 65536) ∷ [], pos 1) ∷ []) ≡ Err (large limits.Exponent)
+  pub steep_is_large : (polynomial_difference letter_cmp steep (((x, 65536) ∷ [], pos 1) ∷ []) ≡ times_u (pos 1))
+    × (difference_answer letters steep (((x, 65536) ∷ [], pos 1) ∷ []) ≡ Err (large limits.Exponent))
   -- the sum of (2^127 - 1)*u and -u has a coefficient that fits, and is wide
-  pub wide_sum : polynomial_sum letter_cmp (times_u (pos most)) (times_u (minus 1)) ≡ times_u (pos (2 ^ 127 - 2))
-  pub sum_is_wide : sum_answer letters (times_u (pos most)) (times_u (minus 1)) ≡ Err wide
-  -- the sum of (2^127 - 2)*u and u fits
-  pub sum_fits : sum_answer letters (times_u (pos (2 ^ 127 - 2))) (times_u (pos 1)) ≡ Ok (times_u (pos most))
+  pub sum_is_wide : (polynomial_sum letter_cmp (times_u (pos most)) (times_u (minus 1)) ≡ times_u (pos (2 ^ 127 - 2)))
+    × (sum_answer letters (times_u (pos most)) (times_u (minus 1)) ≡ Err wide)
   -- what is both large and wide is told as large
   pub large_first : sum_answer letters steep (times_u (pos most)) ≡ Err (large limits.Exponent)
