@@ -21,3 +21,4 @@ pub mod Derivations
 pub mod DomainValues
 pub mod LawProofs
 pub mod ExampleProofs
+pub mod Leaders

@@ -12,11 +12,11 @@ module _ {S : Type 0} {cmp : S → S → Ordering} (order : IsOrder cmp) where
   tied : (s : S) → cmp s s ≡ Equal
   tied s = tied_itself order.total s
 
-  exponent_below : (s : S) (m : Monomial S) → IsAbove cmp s m → exponent cmp s m ≡ 0
+  pub exponent_below : (s : S) (m : Monomial S) → IsAbove cmp s m → exponent cmp s m ≡ 0
   exponent_below s [] a = refl
   exponent_below s (p ∷ m) a = ap (λ o. match_ordering o (exponent cmp s m) (p.1 + exponent cmp s m) (exponent cmp s m)) a.0 ∙ exponent_below s m a.1
 
-  above_more : (s t : S) (m : Monomial S) → cmp s t ≡ Greater → IsAbove cmp t m → IsAbove cmp s m
+  pub above_more : (s t : S) (m : Monomial S) → cmp s t ≡ Greater → IsAbove cmp t m → IsAbove cmp s m
   above_more s t [] h a = tt
   above_more s t (p ∷ m) h a = (greater_trans order.total s t p.0 h a.0, above_more s t m h a.1)
 
@@ -54,7 +54,7 @@ module _ {S : Type 0} {cmp : S → S → Ordering} (order : IsOrder cmp) where
               more Greater j x y e = e
 
   -- ---- products
-  exponent_with_power : (s t : S) (e : ℕ) (m : Monomial S) → exponent cmp s (with_power cmp t e m) ≡ match_ordering (cmp s t) 0 e 0 + exponent cmp s m
+  pub exponent_with_power : (s t : S) (e : ℕ) (m : Monomial S) → exponent cmp s (with_power cmp t e m) ≡ match_ordering (cmp s t) 0 e 0 + exponent cmp s m
   exponent_with_power s t e [] = first (cmp s t) e
     where
       first : (o : Ordering) (e : ℕ) → match_ordering o 0 (e + 0) 0 ≡ match_ordering o 0 e 0 + 0
