@@ -1,5 +1,5 @@
 -- Two derivations of a ring that commute at the values of symbols commute at every value.
-use Rattle.std.proofs.Common.{◌≡◌, ℕ, zero, suc, List, [], ◌∷◌, ℤ, refl, sym, ap, ap₂, ◌∙◌}
+use Rattle.std.proofs.Common.{◌≡◌, ℕ, zero, suc, [], ◌∷◌, ℤ, sym, ap, ap₂, ◌∙◌}
 use Rattle.dz_algebra.specs.Ring.{Ring, sum_of_sums}
 use Rattle.dz_algebra.specs.Monomial.{Monomial}
 use Rattle.dz_algebra.specs.Polynomial.{Contributions}

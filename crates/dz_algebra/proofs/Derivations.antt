@@ -1,9 +1,9 @@
 -- The derivation of polynomials is additive, obeys Leibniz' rule, and derivations commute.
-use Rattle.std.proofs.Common.{◌≡◌, ◌<◌, ℕ, zero, suc, List, [], ◌∷◌, ◌++◌, ℤ, pos, ◌*ℤ◌, refl, sym, ap, ap₂, ◌∙◌, arith}
+use Rattle.std.proofs.Common.{◌≡◌, ◌<◌, ℕ, zero, suc, [], ◌∷◌, ◌++◌, ℤ, pos, ◌*ℤ◌, refl, sym, ap, ap₂, ◌∙◌, arith}
 use Rattle.std.specs.declared.cmp.Ordering.{Ordering}
 use Rattle.dz_algebra.specs.Ring.{Ring}
 use Rattle.dz_algebra.specs.Order.{IsOrder, IsAbove}
-use Rattle.dz_algebra.specs.Monomial.{Monomial, IsMonomial, monomial_cmp, with_power}
+use Rattle.dz_algebra.specs.Monomial.{Monomial, IsMonomial, monomial_cmp}
 use Rattle.dz_algebra.specs.Polynomial.{Polynomial, Contributions, IsPolynomial, AreMonomials, collect, pairs, symbol_polynomial, polynomial_one, polynomial_sum, polynomial_product}
 use Rattle.dz_algebra.specs.Derivation.{Rate, constant, unit, symbol, once_less, times_rate, each_with_power, term_derivative, derivative_contributions, polynomial_derivative, rate_again, rate_polynomial, RatesCommute}
 use Rattle.dz_algebra.specs.Value.{value, rate_value}

@@ -1,18 +1,15 @@
 -- The value of a derivative is the derivative of the value, for derivations into a ring along a homomorphism.
-use Rattle.std.proofs.Common.{◌≡◌, ℕ, zero, suc, ◌+◌, ◌-◌, ◌*◌, Bool, true, false, cond, List, [], ◌∷◌, ◌++◌, ℤ, pos, negsuc, ◌+ℤ◌, ◌*ℤ◌, neg_ℤ, refl, sym, ap, ap₂, ◌∙◌, arith, ltb, ltb-true, ltb-false}
+use Rattle.std.proofs.Common.{◌≡◌, ℕ, zero, suc, List, [], ◌∷◌, ℤ, pos, negsuc, ◌*ℤ◌, refl, sym, ap, ap₂, ◌∙◌}
 use Rattle.std.specs.declared.cmp.Ordering.{Ordering}
-use Rattle.std.specs.declared.cmp.Ordering.TheVariants.{Less, Equal, Greater}
-use lib.IntN.{sub_ℕ}
+use Rattle.std.specs.declared.cmp.Ordering.TheVariants.{Equal}
 use Rattle.dz_algebra.specs.Domain.{copies}
-use Rattle.dz_algebra.specs.Whole.{whole_is_zero}
-use Rattle.dz_algebra.specs.Ring.{Ring, sum_swaps, product_swaps, product_of_products, sum_times, right_neutral, cancels, product_zero, zero_product, negative_product, negative_sum, negative_negative, negative_zero}
-use Rattle.dz_algebra.specs.Monomial.{Monomial, with_power, monomial_product}
-use Rattle.dz_algebra.specs.Polynomial.{Polynomial, keep, add_term, collect, term_times, pairs}
+use Rattle.dz_algebra.specs.Ring.{Ring, product_swaps, sum_times, right_neutral, cancels, product_zero, zero_product}
+use Rattle.dz_algebra.specs.Monomial.{Monomial}
+use Rattle.dz_algebra.specs.Polynomial.{Polynomial}
 use Rattle.dz_algebra.specs.Derivation.{Rate, constant, unit, symbol, once_less, times_rate, each_with_power, term_derivative, derivative_contributions}
 use Rattle.dz_algebra.specs.Value.{whole_in, power, monomial_value, value, rate_value}
-use Rattle.std.specs.Ordering.{match_ordering}
 use Rattle.dz_algebra.proofs.Homomorphisms.{IsHomomorphism, image_whole, image_power, image_monomial}
-use Rattle.dz_algebra.proofs.Values.{plus_minus, moved, whole_in-*ℤ, with_power_value, value-append, term}
+use Rattle.dz_algebra.proofs.Values.{plus_minus, moved, whole_in-*ℤ, with_power_value, value-append}
 
 -- a derivation d from one ring into another, in which the elements stand as their images
 module _ {A R : Type 0} (a : Ring A) (r : Ring R) (image : A → R) (keeps : IsHomomorphism a r image) (d : A → R) (additive : (x y : A) → d (a.sum x y) ≡ r.sum (d x) (d y)) (leibniz : (x y : A) → d (a.product x y) ≡ r.sum (r.product (d x) (image y)) (r.product (image x) (d y))) where

@@ -1,9 +1,9 @@
 -- The laws of values in a domain, where each symbol stands for a value.
-use Rattle.std.proofs.Common.{◌≡◌, ◌≢◌, ◌⊎◌, ◌<◌, ℕ, zero, suc, Bool, List, [], ◌∷◌, ◌++◌, ℤ, pos, negsuc, IsTrue, refl, sym, ap, ap₂, ◌∙◌, subst, inl, inr}
+use Rattle.std.proofs.Common.{◌≡◌, ◌≢◌, ◌⊎◌, ◌<◌, ℕ, zero, suc, [], ◌∷◌, ◌++◌, ℤ, pos, negsuc, IsTrue, refl, sym, ap, ap₂, ◌∙◌, subst, inl, inr}
 use Rattle.std.specs.declared.cmp.Ordering.{Ordering}
 use Rattle.std.specs.declared.cmp.Ordering.TheVariants.{Less, Equal, Greater}
 use Rattle.std.specs.Ordering.{match_ordering}
-use Rattle.dz_algebra.specs.Domain.{Arithmetic, Operations, DomainLaws, copies}
+use Rattle.dz_algebra.specs.Domain.{Operations, DomainLaws, copies}
 use Rattle.dz_algebra.specs.Ring.{Ring, Value, same_value, values_arithmetic, ring_of_values, additive_zero}
 use Rattle.dz_algebra.specs.Order.{IsOrder}
 use Rattle.dz_algebra.specs.Monomial.{Monomial, monomial_cmp}

@@ -1,16 +1,14 @@
 -- A polynomial is its own value in the ring of polynomials, where each symbol stands for itself.
-use Rattle.std.proofs.Common.{◌≡◌, ◌<◌, ◌+◌, ℕ, zero, suc, List, [], ◌∷◌, ℤ, pos, negsuc, ◌+ℤ◌, ◌*ℤ◌, neg_ℤ, refl, sym, ap, ap₂, ◌∙◌, arith}
+use Rattle.std.proofs.Common.{◌≡◌, ◌<◌, ◌+◌, ℕ, zero, suc, [], ◌∷◌, ℤ, pos, negsuc, ◌+ℤ◌, ◌*ℤ◌, refl, sym, ap, ap₂, ◌∙◌, arith}
 use Rattle.std.proofs.lemmas.Int.{ints}
 use Rattle.std.specs.declared.cmp.Ordering.{Ordering}
-use Rattle.std.specs.declared.cmp.Ordering.TheVariants.{Less, Equal, Greater}
 use Rattle.std.specs.Cmp.{tied_itself}
 use Rattle.std.specs.Ordering.{match_ordering}
 use Rattle.dz_algebra.specs.Domain.{copies}
 use Rattle.dz_algebra.specs.Ring.{Ring}
-use Rattle.dz_algebra.specs.Whole.{whole_ring}
 use Rattle.dz_algebra.specs.Order.{IsOrder, IsAbove}
 use Rattle.dz_algebra.specs.Monomial.{Monomial, IsMonomial, monomial_cmp, with_power, monomial_product}
-use Rattle.dz_algebra.specs.Polynomial.{Polynomial, Contributions, IsPolynomial, AreMonomials, collect, negated, pairs, symbol_polynomial, polynomial_one, polynomial_sum, polynomial_product}
+use Rattle.dz_algebra.specs.Polynomial.{Contributions, IsPolynomial, AreMonomials, collect, symbol_polynomial, polynomial_one, polynomial_sum, polynomial_product}
 use Rattle.dz_algebra.specs.Value.{whole_in, power, monomial_value, value}
 use Rattle.dz_algebra.proofs.Canonical.{are_monomials, collected}
 use Rattle.dz_algebra.proofs.Totals.{total, total-append, total_collect, total_pairs, same_by_totals}

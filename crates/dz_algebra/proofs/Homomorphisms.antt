@@ -1,5 +1,5 @@
 -- Homomorphisms of rings, and what they make of values.
-use Rattle.std.proofs.Common.{◌≡◌, ℕ, zero, suc, List, [], ◌∷◌, ℤ, pos, negsuc, refl, sym, ap, ap₂, ◌∙◌}
+use Rattle.std.proofs.Common.{◌≡◌, ℕ, zero, suc, [], ◌∷◌, ℤ, pos, negsuc, refl, ap, ap₂, ◌∙◌}
 use Rattle.dz_algebra.specs.Domain.{copies}
 use Rattle.dz_algebra.specs.Ring.{Ring}
 use Rattle.dz_algebra.specs.Monomial.{Monomial}

@@ -1,20 +1,21 @@
 -- The laws of the definitions, put together from their lemmas.
-use Rattle.std.proofs.Common.{◌≡◌, ◌≢◌, ◌<◌, ℕ, Bool, List, [], ◌∷◌, ◌++◌, ℤ, pos, IsTrue, refl, sym, ap, ap₂, ◌∙◌}
+use Rattle.std.proofs.Common.{◌≡◌, ◌≢◌, ℕ, Bool, [], ◌++◌, IsTrue, refl, sym, ap}
 use Rattle.std.specs.declared.cmp.Ordering.{Ordering}
 use Rattle.dz_algebra.specs.Domain.{Operations, DomainLaws}
 use Rattle.dz_algebra.specs.Order.{IsOrder}
-use Rattle.dz_algebra.specs.Monomial.{Monomial, monomial_cmp}
+use Rattle.dz_algebra.specs.Monomial.{monomial_cmp}
 use Rattle.dz_algebra.specs.Polynomial.{Polynomial, IsPolynomial, PolynomialIn, negated, polynomial_sum, polynomial_difference}
-use Rattle.dz_algebra.specs.Derivation.{Rate, RatesCommute, polynomial_derivative}
+use Rattle.dz_algebra.specs.Derivation.{Rate}
 use Rattle.dz_algebra.specs.Symbols.{Symbols}
 use Rattle.dz_algebra.specs.Value.{value}
-use Rattle.dz_algebra.specs.Laws.{CoefficientLaws, ClosureLaws, RingLaws, DerivationLaws, NormLaws, OperationLaws, ValueLaws, AreIndependent}
+use Rattle.dz_algebra.specs.Laws.{CoefficientLaws, ClosureLaws, RingLaws, DerivationLaws, DerivationsCommute, PowerLaws, LeaderLaws, NormLaws, OperationLaws, ValueLaws, AreIndependent}
 use Rattle.dz_algebra.proofs.Orders.{same_monomial}
-use Rattle.dz_algebra.proofs.Canonical.{collect_is, are_monomials, monomials-append, coefficient_collect, same_polynomial, same_collected, polynomial_sum_commutes, collected}
-use Rattle.dz_algebra.proofs.Totals.{total, total-append, total_collect, same_by_totals}
+use Rattle.dz_algebra.proofs.Canonical.{collect_is, are_monomials, monomials-append, coefficient_collect, same_polynomial, polynomial_sum_commutes}
 use Rattle.dz_algebra.proofs.Products.{polynomial_sum_is, polynomial_product_is, polynomial_product_commutes, polynomial_product_associates, polynomial_product_distributes}
 use Rattle.dz_algebra.proofs.PolynomialRing.{one_is, negated_is, sum_associates, zero_is_neutral, negative_is_inverse, one_is_neutral}
 use Rattle.dz_algebra.proofs.Derivations.{polynomial_derivative_is, additive, leibniz, derivative_of_symbol, derivatives_commute}
+use Rattle.dz_algebra.proofs.Coefficients.{coefficient_of_is, coefficient_there, initial_not_zero}
+use Rattle.dz_algebra.proofs.Leaders.{leader_greatest, leader_occurs, ground_no_leader, no_leader_ground}
 use Rattle.dz_algebra.proofs.Divisors.{gcd_is}
 use Rattle.dz_algebra.proofs.Norms.{signed_content_nonzero, scaled_norm}
 use Rattle.dz_algebra.proofs.NormLaws.{norm_is, norm_idempotent, norm_of_scaled}
@@ -66,8 +67,22 @@ derivation_laws cmp order rate = record {
   of_symbol = λ s. derivative_of_symbol order rate s;
 }
 
-pub derivations_commute : {S : Type 0} (cmp : S → S → Ordering) → IsOrder cmp → (first second : S → Rate S) → RatesCommute first second → (p : Polynomial S) → IsPolynomial cmp p → polynomial_derivative cmp first (polynomial_derivative cmp second p) ≡ polynomial_derivative cmp second (polynomial_derivative cmp first p)
-derivations_commute cmp order first second same p h = ap (λ x. x.0) (derivatives_commute order first second same (p, h))
+pub commute_laws : {S : Type 0} (cmp : S → S → Ordering) → IsOrder cmp → DerivationsCommute cmp
+commute_laws cmp order first second same p h = ap (λ x. x.0) (derivatives_commute order first second same (p, h))
+
+pub power_laws : {S : Type 0} (cmp : S → S → Ordering) → IsOrder cmp → (s : S) → PowerLaws cmp s
+power_laws cmp order s = record {
+  coefficient_is = λ k p h. coefficient_of_is order s k p h;
+  coefficient = λ n p h g. coefficient_there order s n p h g;
+  initial_not_zero = λ p n. initial_not_zero order s p n;
+}
+
+pub leader_laws : {S : Type 0} (g : Symbols S) → IsOrder g.cmp → LeaderLaws g
+leader_laws g order = record {
+  occurs = λ p v h e. leader_occurs g order p v h e;
+  greatest = λ p v e. leader_greatest g order p v e;
+  ground = λ p. (ground_no_leader g p, no_leader_ground g p);
+}
 
 pub norm_laws : {S : Type 0} (cmp : S → S → Ordering) → NormLaws cmp
 norm_laws cmp = record {

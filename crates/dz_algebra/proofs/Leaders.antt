@@ -1,5 +1,5 @@
 -- The leader is the greatest derivative that occurs, and there is none exactly where no derivative occurs.
-use Rattle.std.proofs.Common.{◌≡◌, ◌≢◌, ◌⊎◌, inl, inr, ℕ, zero, suc, ◌+◌, ◌<◌, max, Bool, true, false, cond, not, ◌&&◌, ◌||◌, IsTrue, List, [], ◌∷◌, Option, Some, None, refl, sym, ap, ◌∙◌, arith, subst}
+use Rattle.std.proofs.Common.{◌≡◌, ◌≢◌, ◌⊎◌, inl, inr, ℕ, ◌+◌, ◌<◌, Bool, true, false, cond, not, ◌&&◌, ◌||◌, IsTrue, [], ◌∷◌, Option, Some, None, refl, sym, ap, ◌∙◌, arith, subst}
 use Rattle.std.specs.Prelude.{⊤}
 use Rattle.std.specs.declared.cmp.Ordering.{Ordering}
 use Rattle.std.specs.declared.cmp.Ordering.TheVariants.{Less, Equal, Greater}
@@ -95,9 +95,9 @@ module _ {S : Type 0} (g : Symbols S) (order : IsOrder g.cmp) where
   occurs_polynomial : (p : Polynomial S) (best : Option S) (v : S) → IsPolynomial g.cmp p → leader_from g p best ≡ Some v → (best ≡ Some v) ⊎ Occurs v (degree g.cmp v p)
   occurs_polynomial [] best v h e = inl e
   occurs_polynomial (t ∷ p) best v h e = elim (occurs_polynomial p (greatest_derivative g t.0 best) v h.3 e) [
-      | inr o ↦ inr (o.0, omega (arith, o.1))
-      | inl f ↦ elim (occurs_monomial t.0 best v h.1 f) [ inl k ↦ inl k | inr o ↦ inr (o.0, omega (arith, o.1)) ]
-    ]
+    | inr o ↦ inr (o.0, omega (arith, o.1))
+    | inl f ↦ elim (occurs_monomial t.0 best v h.1 f) [ inl k ↦ inl k | inr o ↦ inr (o.0, omega (arith, o.1)) ]
+  ]
 
   pub leader_occurs : (p : Polynomial S) (v : S) → IsPolynomial g.cmp p → leader g p ≡ Some v → IsTrue (g.is_derivative v) × (0 < degree g.cmp v p)
   leader_occurs p v h e = elim (occurs_polynomial p None v h e) [ inl f ↦ absurd cc | inr o ↦ o ]

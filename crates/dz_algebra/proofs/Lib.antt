@@ -22,3 +22,4 @@ pub mod DomainValues
 pub mod LawProofs
 pub mod ExampleProofs
 pub mod Leaders
+pub mod Coefficients

@@ -1,12 +1,12 @@
 -- Multiplying keeps the order of monomials, and so does leaving out a power that is the same.
-use Rattle.std.proofs.Common.{◌≡◌, ◌<◌, ◌+◌, ◌∙◌, ℕ, zero, suc, List, [], ◌∷◌, refl, sym, ap, ap₂, subst, arith}
+use Rattle.std.proofs.Common.{◌≡◌, ◌<◌, ◌+◌, ◌∙◌, ℕ, [], ◌∷◌, refl, sym, ap, ap₂, arith}
 use Rattle.std.specs.declared.cmp.Ordering.{Ordering}
 use Rattle.std.specs.declared.cmp.Ordering.TheVariants.{Less, Equal, Greater}
 use Rattle.std.specs.Ordering.{match_ordering, ordering_then, nat_cmp}
 use Rattle.std.specs.Cmp.{tied_itself}
 use Rattle.std.proofs.lemmas.Bool.Decides.{nat_tests}
-use Rattle.dz_algebra.specs.Order.{IsOrder, IsAbove}
-use Rattle.dz_algebra.specs.Monomial.{Monomial, IsMonomial, with_power, without, exponent, monomial_product, monomial_cmp}
+use Rattle.dz_algebra.specs.Order.{IsOrder}
+use Rattle.dz_algebra.specs.Monomial.{Monomial, IsMonomial, with_power, monomial_product, monomial_cmp}
 use Rattle.dz_algebra.proofs.Orders.{less_reversed, greater_reversed, greater_trans}
 use Rattle.dz_algebra.proofs.Monomials.{product_is}
 

@@ -3,11 +3,10 @@ use Rattle.std.proofs.Common.{◌≡◌, ◌≢◌, ℕ, zero, suc, ◌%◌, ◌
 use Rattle.std.proofs.lemmas.Int.{ints, quot-rem}
 use Rattle.std.proofs.lemmas.Nat.Gcd.{dvd_trans, mod-eq-zero_of_dvd}
 use Rattle.dz_algebra.specs.Ring.{Ring, product_zero}
-use Rattle.dz_algebra.specs.Monomial.{Monomial}
 use Rattle.dz_algebra.specs.Polynomial.{Polynomial, scaled, IsPolynomial}
 use Rattle.dz_algebra.specs.Value.{whole_in, monomial_value, value}
-use Rattle.dz_algebra.specs.Norm.{gcd, content, divided, signed_content, norm}
-use Rattle.dz_algebra.proofs.Divisors.{gcd_is, gcd_multiple}
+use Rattle.dz_algebra.specs.Norm.{content, divided, signed_content, norm}
+use Rattle.dz_algebra.proofs.Divisors.{gcd_is}
 use Rattle.dz_algebra.proofs.Values.{whole_in-*ℤ}
 use Prim.Native.Nat.{◌∣◌}
 use Rattle.std.specs.declared.cmp.Ordering.{Ordering}

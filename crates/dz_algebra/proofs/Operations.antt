@@ -1,6 +1,6 @@
 -- What the operation with given contributions answers: the polynomial that they make, canonical, or a refusal.
-use Rattle.std.specs.Prelude.{Ok, Err}
-use Rattle.std.proofs.Common.{◌≡◌, Bool, true, false, cond, List, [], ◌∷◌, ◌++◌, map, length, ℤ, zero, suc, pos, negsuc, ◌+ℤ◌, subst, Option, Some, None, refl, sym, ap, ap₂, ◌∙◌, arith}
+use Rattle.std.specs.Prelude.{Ok}
+use Rattle.std.proofs.Common.{◌≡◌, Bool, true, false, cond, List, [], ◌∷◌, ◌++◌, ℤ, zero, suc, pos, negsuc, ◌+ℤ◌, subst, Option, Some, None, refl, sym, ap, ◌∙◌, arith}
 use Rattle.std.proofs.lemmas.Int.{ints}
 use Rattle.std.specs.declared.cmp.Ordering.{Ordering}
 use Rattle.std.specs.declared.cmp.Ordering.TheVariants.{Less, Equal, Greater}
@@ -8,14 +8,14 @@ use Rattle.std.specs.Ordering.{match_ordering}
 use Rattle.dz_algebra.specs.Whole.{whole_is_zero}
 use Rattle.dz_algebra.specs.Order.{IsOrder, IsAbove, IsFalling}
 use Rattle.dz_algebra.specs.Monomial.{Monomial, monomial_cmp}
-use Rattle.dz_algebra.specs.Polynomial.{Polynomial, Contributions, IsPolynomial, AreMonomials, keep, add_term, collect, negated, pairs}
-use Rattle.dz_algebra.specs.Gather.{put, onto, gather, merge}
+use Rattle.dz_algebra.specs.Polynomial.{Polynomial, Contributions, IsPolynomial, AreMonomials, keep, add_term, collect, pairs}
+use Rattle.dz_algebra.specs.Gather.{put, onto}
 use Rattle.dz_algebra.specs.Amount.{Amount, amount, amounts, add_amounts, gathered, nonzero}
 use Rattle.dz_algebra.specs.Symbols.{Symbols}
-use Rattle.dz_algebra.specs.Size.{Refusal, refusal, unless, operation, support, fits, limit_of, refused}
+use Rattle.dz_algebra.specs.Size.{refusal, unless, operation, support, fits}
 use Rattle.dz_algebra.proofs.Gathers.{falling_onto, merge_puts}
 use Rattle.dz_algebra.proofs.Orders.{same_monomial, monomial_cmp_total, greater_trans}
-use Rattle.dz_algebra.proofs.Canonical.{collect_is, are_monomials, monomials-append, collected}
+use Rattle.dz_algebra.proofs.Canonical.{collect_is}
 
 module _ {S : Type 0} {cmp : S → S → Ordering} (order : IsOrder cmp) where
   abbrev by : Monomial S → Monomial S → Ordering

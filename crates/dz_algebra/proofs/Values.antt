@@ -5,11 +5,10 @@ use Rattle.std.specs.declared.cmp.Ordering.TheVariants.{Less, Equal, Greater}
 use lib.IntN.{sub_ℕ}
 use Rattle.dz_algebra.specs.Domain.{copies}
 use Rattle.dz_algebra.specs.Whole.{whole_is_zero}
-use Rattle.dz_algebra.specs.Ring.{Ring, sum_swaps, product_swaps, product_of_products, sum_times, right_neutral, cancels, product_zero, zero_product, negative_product, negative_sum, negative_negative, negative_zero}
+use Rattle.dz_algebra.specs.Ring.{Ring, sum_swaps, product_swaps, product_of_products, sum_times, right_neutral, product_zero, zero_product, negative_product, negative_sum, negative_negative, negative_zero}
 use Rattle.dz_algebra.specs.Monomial.{Monomial, with_power, monomial_product}
 use Rattle.dz_algebra.specs.Polynomial.{Polynomial, keep, add_term, collect, term_times, pairs, negated}
-use Rattle.dz_algebra.specs.Derivation.{Rate, constant, unit, symbol, once_less, times_rate, each_with_power, term_derivative, derivative_contributions}
-use Rattle.dz_algebra.specs.Value.{whole_in, power, monomial_value, value, rate_value}
+use Rattle.dz_algebra.specs.Value.{whole_in, power, monomial_value, value}
 use Rattle.std.specs.Ordering.{match_ordering}
 
 module _ {R : Type 0} (r : Ring R) where

@@ -1,16 +1,15 @@
 -- Worked examples, computed by hand: independents x and y, and one dependent u.
-use Rattle.std.specs.Prelude.{◌≡◌, ℕ, zero, suc, ◌+◌, ◌-◌, ◌^◌, ◌==◌, Bool, true, false, cond, List, [], ◌∷◌, ◌++◌, ℤ, pos, neg_ℤ, Some, Ok, Err}
+use Rattle.std.specs.Prelude.{◌≡◌, ℕ, zero, suc, ◌+◌, ◌-◌, ◌^◌, ◌==◌, Bool, true, false, cond, [], ◌∷◌, ℤ, pos, neg_ℤ, Some, Err}
 use Rattle.std.specs.declared.cmp.Ordering.{Ordering}
 use Rattle.std.specs.declared.cmp.Ordering.TheVariants.{Less, Greater}
 use Rattle.std.specs.Ordering.{nat_cmp, ordering_then}
 use Rattle.dz_algebra.specs.declared.Limit.TheVariants as limits
-use Rattle.dz_algebra.specs.Monomial.{Monomial}
 use Rattle.dz_algebra.specs.Polynomial.{Polynomial, pairs, polynomial_sum, polynomial_difference, polynomial_product}
 use Rattle.dz_algebra.specs.Derivation.{Rate, constant, unit, symbol, polynomial_derivative}
 use Rattle.dz_algebra.specs.Symbols.{Symbols}
 use Rattle.dz_algebra.specs.Parts.{leader, initial, separant}
 use Rattle.dz_algebra.specs.Norm.{norm}
-use Rattle.dz_algebra.specs.Size.{support, Refusal, wide, large, sum_answer, difference_answer}
+use Rattle.dz_algebra.specs.Size.{support, wide, large, sum_answer, difference_answer}
 
 -- the j-th independent, and u derived i times by x and j times by y
 pub data Letter : Type 0 where
@@ -109,14 +108,14 @@ pub record DerivationExamples : Type 0 where
 pub record OperationExamples : Type 0 where
   -- the product of u + x and u - x has four contributions, and is u^2 - x^2
   pub cancelling : (pairs letter_cmp plus_x minus_x ≡ ((u, 2) ∷ [], pos 1) ∷ ((u, 1) ∷ (x, 1) ∷ [], minus 1) ∷ ((u, 1) ∷ (x, 1) ∷ [], pos 1) ∷ ((x, 2) ∷ [], minus 1) ∷ [])
-    × (polynomial_product letter_cmp plus_x minus_x ≡ ((u, 2) ∷ [], pos 1) ∷ ((x, 2) ∷ [], minus 1) ∷ [])
+      × (polynomial_product letter_cmp plus_x minus_x ≡ ((u, 2) ∷ [], pos 1) ∷ ((x, 2) ∷ [], minus 1) ∷ [])
   -- its support has three monomials, with that at which the contributions cancel
   pub kept : support letter_cmp (pairs letter_cmp plus_x minus_x) ≡ ((u, 2) ∷ []) ∷ ((u, 1) ∷ (x, 1) ∷ []) ∷ ((x, 2) ∷ []) ∷ []
   -- the difference of u + x^65536 and x^65536 is u, and is large by the exponent
   pub steep_is_large : (polynomial_difference letter_cmp steep (((x, 65536) ∷ [], pos 1) ∷ []) ≡ times_u (pos 1))
-    × (difference_answer letters steep (((x, 65536) ∷ [], pos 1) ∷ []) ≡ Err (large limits.Exponent))
+      × (difference_answer letters steep (((x, 65536) ∷ [], pos 1) ∷ []) ≡ Err (large limits.Exponent))
   -- the sum of (2^127 - 1)*u and -u has a coefficient that fits, and is wide
   pub sum_is_wide : (polynomial_sum letter_cmp (times_u (pos most)) (times_u (minus 1)) ≡ times_u (pos (2 ^ 127 - 2)))
-    × (sum_answer letters (times_u (pos most)) (times_u (minus 1)) ≡ Err wide)
+      × (sum_answer letters (times_u (pos most)) (times_u (minus 1)) ≡ Err wide)
   -- what is both large and wide is told as large
   pub large_first : sum_answer letters steep (times_u (pos most)) ≡ Err (large limits.Exponent)

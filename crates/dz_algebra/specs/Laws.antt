@@ -1,14 +1,15 @@
 -- The laws of the definitions, each stated once; the crate's law functions ask for their proofs.
-use Rattle.std.specs.Prelude.{◌≡◌, ◌≢◌, ◌<◌, ℕ, List, [], ◌∷◌, ◌++◌, ℤ, pos, Bool, IsTrue, Ok}
+use Rattle.std.specs.Prelude.{◌≡◌, ◌≢◌, ◌↔◌, ◌<◌, Some, None, ℕ, [], ℤ, pos, Bool, IsTrue, Ok}
 use Rattle.std.specs.Int.{IsGcd}
 use Rattle.std.specs.declared.cmp.Ordering.{Ordering}
+use Rattle.std.specs.declared.cmp.Ordering.TheVariants.{Greater}
 use Rattle.std.specs.Ordering.{match_ordering}
 use Rattle.dz_algebra.specs.Domain.{Operations}
-use Rattle.dz_algebra.specs.Order.{IsOrder}
-use Rattle.dz_algebra.specs.Monomial.{Monomial, monomial_cmp}
+use Rattle.dz_algebra.specs.Monomial.{Monomial, IsMonomial, monomial_cmp, exponent, without}
 use Rattle.dz_algebra.specs.Polynomial.{Polynomial, Contributions, IsPolynomial, AreMonomials, PolynomialIn, coefficient_at, collect, pairs, scaled, symbol_polynomial, polynomial_one, polynomial_sum, polynomial_difference, polynomial_negative, polynomial_product}
 use Rattle.dz_algebra.specs.Derivation.{Rate, RatesCommute, rate_polynomial, polynomial_derivative}
 use Rattle.dz_algebra.specs.Symbols.{Symbols}
+use Rattle.dz_algebra.specs.Parts.{degree, coefficient_of, initial, is_ground, leader}
 use Rattle.dz_algebra.specs.Norm.{gcd, signed_content, norm}
 use Rattle.dz_algebra.specs.Amount.{gathered, nonzero}
 use Rattle.dz_algebra.specs.Size.{operation}
@@ -46,6 +47,24 @@ pub record DerivationLaws {S : Type 0} (cmp : S → S → Ordering) (rate : S �
   pub of_sum : (p q : Polynomial S) → IsPolynomial cmp p → IsPolynomial cmp q → polynomial_derivative cmp rate (polynomial_sum cmp p q) ≡ polynomial_sum cmp (polynomial_derivative cmp rate p) (polynomial_derivative cmp rate q)
   pub of_product : (p q : Polynomial S) → IsPolynomial cmp p → IsPolynomial cmp q → polynomial_derivative cmp rate (polynomial_product cmp p q) ≡ polynomial_sum cmp (polynomial_product cmp (polynomial_derivative cmp rate p) q) (polynomial_product cmp p (polynomial_derivative cmp rate q))
   pub of_symbol : (s : S) → polynomial_derivative cmp rate (symbol_polynomial s) ≡ rate_polynomial (rate s)
+
+-- two derivations commute, if they do at each symbol
+abbrev pub DerivationsCommute : {S : Type 0} → (S → S → Ordering) → Type 0
+DerivationsCommute {S} cmp =
+    (first second : S → Rate S) → RatesCommute first second → (p : Polynomial S) → IsPolynomial cmp p
+    → polynomial_derivative cmp first (polynomial_derivative cmp second p) ≡ polynomial_derivative cmp second (polynomial_derivative cmp first p)
+
+-- the coefficient of a power of s has the coefficients that stand at that power, and the initial is not zero
+pub record PowerLaws {S : Type 0} (cmp : S → S → Ordering) (s : S) : Type 0 where
+  pub coefficient_is : (k : ℕ) (p : Polynomial S) → IsPolynomial cmp p → IsPolynomial cmp (coefficient_of cmp s k p)
+  pub coefficient : (n : Monomial S) (p : Polynomial S) → IsMonomial cmp n → IsPolynomial cmp p → coefficient_at (monomial_cmp cmp) (without cmp s n) (coefficient_of cmp s (exponent cmp s n) p) ≡ coefficient_at (monomial_cmp cmp) n p
+  pub initial_not_zero : (p : Polynomial S) → p ≢ [] → initial cmp s p ≢ []
+
+-- the leader is a derivative that occurs, and none that occurs is greater; there is none exactly where no derivative occurs
+pub record LeaderLaws {S : Type 0} (g : Symbols S) : Type 0 where
+  pub occurs : (p : Polynomial S) (v : S) → IsPolynomial g.cmp p → leader g p ≡ Some v → IsTrue (g.is_derivative v) × (0 < degree g.cmp v p)
+  pub greatest : (p : Polynomial S) (v : S) → leader g p ≡ Some v → PolynomialIn (λ s. IsTrue (g.is_derivative s) → g.cmp s v ≢ Greater) p
+  pub ground : (p : Polynomial S) → IsTrue (is_ground g p) ↔ (leader g p ≡ None)
 
 -- the norm of a polynomial that is not zero is its one multiple by a rational number whose coefficients have no common
 -- divisor and whose first coefficient is positive

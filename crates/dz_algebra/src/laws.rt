@@ -7,12 +7,22 @@ ghost use Rattle.std.specs.declared.cmp.Ordering.{Ordering};
 ghost use Rattle.dz_algebra.specs.Domain.{Operations, DomainLaws};
 ghost use Rattle.dz_algebra.specs.Order.{IsOrder};
 ghost use Rattle.dz_algebra.specs.Polynomial.{Polynomial, IsPolynomial, PolynomialIn};
-ghost use Rattle.dz_algebra.specs.Derivation.{Rate, RatesCommute, polynomial_derivative};
+ghost use Rattle.dz_algebra.specs.Derivation.{Rate};
 ghost use Rattle.dz_algebra.specs.Symbols.{Symbols};
 ghost use Rattle.dz_algebra.specs.Value.{value};
 ghost use Rattle.dz_algebra.specs.Examples.{DerivationExamples, OperationExamples};
 ghost use Rattle.dz_algebra.specs.Laws.{
-    CoefficientLaws, ClosureLaws, RingLaws, DerivationLaws, NormLaws, OperationLaws, ValueLaws, AreIndependent
+  CoefficientLaws,
+  ClosureLaws,
+  RingLaws,
+  DerivationLaws,
+  DerivationsCommute,
+  PowerLaws,
+  LeaderLaws,
+  NormLaws,
+  OperationLaws,
+  ValueLaws,
+  AreIndependent,
 };
 
 /// A polynomial is the finite map of its coefficients, and contributions make the polynomial
@@ -37,20 +47,25 @@ pub fn polynomials_are_a_ring<S>()
 /// A derivation is additive and obeys Leibniz' rule.
 #[tactic(auto, using(crate::proofs::LawProofs::derivation_laws))]
 pub fn derivation_obeys_leibniz<S>()
-    ensures {
-        (cmp : S → S → Ordering) → IsOrder cmp → (rate : S → Rate S) → DerivationLaws cmp rate
-    }
+    ensures { (cmp : S → S → Ordering) → IsOrder cmp → (rate : S → Rate S) → DerivationLaws cmp rate }
 {}
 
 /// Two derivations commute, if they do at each symbol.
-#[tactic(auto, using(crate::proofs::LawProofs::derivations_commute))]
+#[tactic(auto, using(crate::proofs::LawProofs::commute_laws))]
 pub fn derivations_commute<S>()
-    ensures {
-        (cmp : S → S → Ordering) → IsOrder cmp → (first second : S → Rate S)
-        → RatesCommute first second → (p : Polynomial S) → IsPolynomial cmp p
-        → polynomial_derivative cmp first (polynomial_derivative cmp second p)
-            ≡ polynomial_derivative cmp second (polynomial_derivative cmp first p)
-    }
+    ensures { (cmp : S → S → Ordering) → IsOrder cmp → DerivationsCommute cmp }
+{}
+
+/// The coefficient of a power of a symbol is a polynomial with the coefficients at that power.
+#[tactic(auto, using(crate::proofs::LawProofs::power_laws))]
+pub fn coefficients_of_powers<S>()
+    ensures { (cmp : S → S → Ordering) → IsOrder cmp → (s : S) → PowerLaws cmp s }
+{}
+
+/// The leader of a polynomial is its greatest derivative.
+#[tactic(auto, using(crate::proofs::LawProofs::leader_laws))]
+pub fn leader_is_greatest<S>()
+    ensures { (g : Symbols S) → IsOrder g.cmp → LeaderLaws g }
 {}
 
 /// The norm of a polynomial is one of its multiples, and the same for all of them.
@@ -66,10 +81,7 @@ pub fn operations_answer_polynomials<S>()
 {}
 
 /// The definitions answer worked examples as they were computed by hand.
-#[tactic(auto, using(
-    crate::proofs::ExampleProofs::derivation_examples,
-    crate::proofs::ExampleProofs::operation_examples,
-))]
+#[tactic(auto, using(crate::proofs::ExampleProofs::derivation_examples, crate::proofs::ExampleProofs::operation_examples,))]
 pub fn worked_examples()
     ensures derivation { DerivationExamples }
     ensures operation { OperationExamples }
@@ -78,21 +90,17 @@ pub fn worked_examples()
 /// The value of a sum is the sum of the values, and so for products and derivatives.
 #[tactic(auto, using(crate::proofs::LawProofs::value_laws))]
 pub fn values_keep_operations<S, E>()
-    ensures {
-        (cmp : S → S → Ordering) → IsOrder cmp → (o : Operations E) → DomainLaws o
-        → (at : S → E) → ((s : S) → IsTrue (o.is_value (at s))) → ValueLaws cmp o at
-    }
+    ensures { (cmp : S → S → Ordering) → IsOrder cmp → (o : Operations E) → DomainLaws o
+        → (at : S → E) → ((s : S) → IsTrue (o.is_value (at s))) → ValueLaws cmp o at }
 {}
 
 /// A polynomial in independents alone that is not zero has no value zero.
 #[tactic(auto, using(crate::proofs::LawProofs::nonzero_laws))]
 pub fn nonzero_never_vanishes<S, E>()
-    ensures {
-        (cmp : S → S → Ordering) → IsOrder cmp → (o : Operations E) → DomainLaws o
+    ensures { (cmp : S → S → Ordering) → IsOrder cmp → (o : Operations E) → DomainLaws o
         → (at : S → E) → ((s : S) → IsTrue (o.is_value (at s)))
         → (test : S → Bool) (place : S → ℕ) → AreIndependent cmp o at test place
         → (p : Polynomial S) → IsPolynomial cmp p → PolynomialIn (λ s. IsTrue (test s)) p
         → p ≢ []
-        → value o.arithmetic at p ≢ o.zero
-    }
+        → value o.arithmetic at p ≢ o.zero }
 {}
