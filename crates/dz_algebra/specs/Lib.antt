@@ -1,0 +1,16 @@
+pub mod Domain
+pub mod Ring
+pub mod Whole
+pub mod Order
+pub mod Monomial
+pub mod Polynomial
+pub mod Derivation
+pub mod Symbols
+pub mod Parts
+pub mod Norm
+pub mod Gather
+pub mod Amount
+pub mod Size
+pub mod Value
+pub mod Laws
+pub mod Examples
