@@ -1,0 +1,7 @@
+//! The program's worked rows: its answers over sources and sinks in memory.
+#![tactic(auto)]
+
+#[cfg(test)]
+mod outside;
+#[cfg(test)]
+mod run;

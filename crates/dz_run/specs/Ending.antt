@@ -1,0 +1,31 @@
+-- How a run ends: its status, and its message.
+use Rattle.std.specs.Prelude.{ℕ, List, [], codes, ⊤}
+use Rattle.dz_run.specs.declared.ending.Ending.{Ending}
+use Rattle.dz_run.specs.declared.ending.Ending.TheVariants.{Done, ReadFault, WriteFault, WriteStuck, NoMemory, TooLong, NotBuilt}
+
+-- the status with which the program ends
+abbrev pub status_of : Ending → ℕ
+status_of Done = 0
+status_of ReadFault = 7
+status_of WriteFault = 8
+status_of WriteStuck = 8
+status_of NoMemory = 9
+status_of TooLong = 11
+status_of NotBuilt = 12
+
+-- the line on the error output, or nothing
+abbrev pub message_of : Ending → List ℕ
+message_of Done = []
+message_of ReadFault = codes "blad: read fault\n"
+message_of WriteFault = codes "blad: write fault\n"
+message_of WriteStuck = codes "blad: write stuck\n"
+message_of NoMemory = codes "blad: no memory\n"
+message_of TooLong = codes "blad: input too long\n"
+message_of NotBuilt = codes "blad: not built yet\n"
+
+-- an ending at which nothing was to be written on the output
+abbrev pub IsSilent : Ending → Type 0
+IsSilent Done = ⊥
+IsSilent WriteFault = ⊥
+IsSilent WriteStuck = ⊥
+IsSilent ending = ⊤

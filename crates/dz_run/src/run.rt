@@ -1,0 +1,113 @@
+// The top call.
+ghost use Rattle.std.specs.Prelude.{◌≡◌, ◌≢◌, ◌⊎◌, map, string_bytes, codes, true, false, IfOk, IfErr, ℕ};
+ghost use Rattle.dz_run.specs.declared.ending.Ending.{Ending};
+ghost use Rattle.dz_run.specs.declared.ending.Ending.TheVariants.{NotBuilt, NoMemory, WriteFault, WriteStuck};
+ghost use Rattle.dz_run.specs.Answer.{is_decompose};
+ghost use Rattle.dz_run.specs.Ending.{IsSilent, message_of, status_of};
+ghost use Rattle.dz_run.specs.Run.{Ends, IsAnswered, IsTold, Input, Output, WritesAnswer};
+
+use crate::answer::{is_decompose, printed};
+use crate::ending::Ending;
+use dz_domain::{Domain, Point};
+use dz_outside::{ReadStop, Sink, Source, WriteStop, read_all, write_all};
+use std::alloc::Global;
+
+/// The most bytes of an input.
+const MOST_BYTES: usize = 1_048_576;
+
+/// Reads the input, and makes what is to be printed for it.
+fn answer<S: Source>(alloc: Global, words: &[String], input: &mut S) -> Result<Vec<u8>, Ending>
+    ensures answered { IfOk result (λ output. IsAnswered (map string_bytes words.now)
+        (record { rest = S.rest input.old; faults = S.faults input.old })
+        (record { rest = S.rest input.new; faults = S.faults input.new }) output.items) }
+    ensures ended { (out : Output) → IfErr result (λ ending. Ends (map string_bytes words.now)
+        (record { rest = S.rest input.old; faults = S.faults input.old })
+        (record { rest = S.rest input.new; faults = S.faults input.new }) out out ending) }
+    ensures silent { IfErr result (λ ending. IsSilent ending) }
+    ensures unread { is_decompose (map string_bytes words.now) ≡ false → input.new ≡ input.old }
+{
+    if !is_decompose(words) {
+        return Err(Ending::NotBuilt);
+    }
+    let bytes = match read_all(alloc, input, MOST_BYTES) {
+        Ok(bytes) => bytes,
+        Err(ReadStop::Memory) => return Err(Ending::NoMemory),
+        Err(ReadStop::Failed) => return Err(Ending::ReadFault),
+        Err(ReadStop::TooLong) => return Err(Ending::TooLong),
+    };
+    match printed(alloc, &bytes) {
+        Ok(Some(output)) => Ok(output),
+        Ok(None) => Err(Ending::NotBuilt),
+        Err(_) => Err(Ending::NoMemory),
+    }
+}
+
+/// Writes the answer on the output, where there is one to write.
+fn write_answer<K: Sink>(out: &mut K, output: &[u8]) -> Result<(), Ending>
+    ensures { WritesAnswer (record { written = K.written out.old; faults = K.faults out.old; stalls = K.stalls out.old })
+        (record { written = K.written out.new; faults = K.faults out.new; stalls = K.stalls out.new }) output.now result }
+{
+    match write_all(out, output) {
+        Ok(()) => Ok(()),
+        Err(WriteStop::Failed) => Err(Ending::WriteFault),
+        Err(WriteStop::Stuck) => Err(Ending::WriteStuck),
+    }
+}
+
+/// Does all the work, and says how it ended.
+fn run<S: Source, K: Sink>(alloc: Global, words: &[String], input: &mut S, out: &mut K) -> Ending
+    ensures ends { Ends (map string_bytes words.now)
+        (record { rest = S.rest input.old; faults = S.faults input.old })
+        (record { rest = S.rest input.new; faults = S.faults input.new })
+        (record { written = K.written out.old; faults = K.faults out.old; stalls = K.stalls out.old })
+        (record { written = K.written out.new; faults = K.faults out.new; stalls = K.stalls out.new }) result }
+    ensures silent { IsSilent result → out.new ≡ out.old }
+    ensures unread { is_decompose (map string_bytes words.now) ≡ false → input.new ≡ input.old }
+{
+    let output = match answer(alloc, words, input) {
+        Ok(output) => output,
+        Err(ending) => return ending,
+    };
+    match write_answer(out, &output) {
+        Ok(()) => Ending::Done,
+        Err(ending) => ending,
+    }
+}
+
+/// Tells on the error output how a run ended, and answers its status.
+pub fn tell<L: Sink>(err: &mut L, ending: Ending) -> u8
+    ensures status { result ≡ status_of ending }
+    ensures told { IsTold (record { written = L.written err.old; faults = L.faults err.old; stalls = L.stalls err.old })
+        (record { written = L.written err.new; faults = L.faults err.new; stalls = L.stalls err.new }) (message_of ending) }
+{
+    // A fault of the error output never changes the status.
+    let _ = write_all(err, ending.message());
+    ending.status()
+}
+
+/// Does all that the program does, and answers its status. No code reads the point.
+pub fn blad_run<D: Domain, S: Source, K: Sink, L: Sink>(
+    alloc: Global,
+    words: &[String],
+    input: &mut S,
+    out: &mut K,
+    err: &mut L,
+    at: &Point<D>,
+) -> u8
+    // The status is that of the way in which the run ended, and the error output has its message.
+    ensures ended { (ending : Ending) × (result ≡ status_of ending)
+        × Ends (map string_bytes words.now)
+        (record { rest = S.rest input.old; faults = S.faults input.old })
+        (record { rest = S.rest input.new; faults = S.faults input.new })
+        (record { written = K.written out.old; faults = K.faults out.old; stalls = K.stalls out.old })
+        (record { written = K.written out.new; faults = K.faults out.new; stalls = K.stalls out.new }) ending
+        × IsTold (record { written = L.written err.old; faults = L.faults err.old; stalls = L.stalls err.old })
+        (record { written = L.written err.new; faults = L.faults err.new; stalls = L.stalls err.new }) (message_of ending) }
+    // Where nothing is to be written on the output, no write is called on it.
+    ensures silent { (result ≡ 7) ⊎ (result ≡ 9) ⊎ (result ≡ 11) ⊎ (result ≡ 12) → out.new ≡ out.old }
+    // Words that are not built are answered before anything is read.
+    ensures unread { is_decompose (map string_bytes words.now) ≡ false → input.new ≡ input.old }
+{
+    let ending = run(alloc, words, input, out);
+    tell(err, ending)
+}
