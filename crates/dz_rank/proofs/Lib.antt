@@ -1,0 +1,4 @@
+pub mod Comparing
+pub mod Exponents
+pub mod RankingOrders
+pub mod Raising
