@@ -2,3 +2,4 @@ pub mod Comparing
 pub mod Exponents
 pub mod RankingOrders
 pub mod Raising
+pub mod CommonDerivatives

@@ -15,7 +15,7 @@ use Rattle.dz_rank.specs.declared.symbols.Operator.{Operator}
 use Rattle.dz_rank.specs.declared.symbols.Symbol.{Symbol}
 use Rattle.dz_rank.specs.declared.symbols.Symbol.TheVariants.{Independent, Derivative}
 use Rattle.dz_rank.specs.Rankings.{RankingValue, BlockValue, ranking_cmp, symbol_cmp, block_number, block_at, by_order, by_lex, by_reverse_lex, by_place, by_kind, derivative_cmp}
-use Rattle.dz_rank.specs.Symbols.{raised, raised_symbol, exponent_sums, derivative_by, is_derivative, HaveOneLength}
+use Rattle.dz_rank.specs.Symbols.{raised, raised_symbol, exponent_sums, derivative_by, is_derivative, HasFourExponents}
 use Rattle.dz_rank.proofs.Exponents.{sum_of_exponent_sums, exponent_sums_raised}
 
 nat_less : (x y : ℕ) → x < y → nat_cmp x y ≡ Less
@@ -132,13 +132,17 @@ grows r (Derivative u s) t d h =
     ap (λ o. ordering_then o (by_kind b.kind b.dependents (u, s.counts) (u, exponent_sums s.counts t.counts))) (tied_itself nat_cmp_total (block_number r.blocks u))
     ∙ kind_grows b.kind b.dependents u s.counts t.counts h
 
-pub keeps_order : (r : RankingValue) (a b : Symbol) (t : Operator) → HaveOneLength a b → ranking_cmp r (derivative_by t a) (derivative_by t b) ≡ ranking_cmp r a b
+-- operators are lists of one length
+pub keeps_order : (r : RankingValue) (u v : ℕ) (s t : Operator) (o : Operator) → length s.counts ≡ length t.counts → ranking_cmp r (derivative_by o (Derivative u s)) (derivative_by o (Derivative v t)) ≡ ranking_cmp r (Derivative u s) (Derivative v t)
 unfolding ranking_cmp
-keeps_order r (Independent i) b t e = absurd e
-keeps_order r (Derivative u s) (Independent j) t e = absurd e
-keeps_order r (Derivative u ks) (Derivative v ls) t e =
+keeps_order r u v s t o e =
     let b = block_at r.blocks (block_number r.blocks u) in
-    ap (ordering_then (nat_cmp (block_number r.blocks v) (block_number r.blocks u))) (kind_kept b.kind b.dependents u v ks.counts ls.counts t.counts e)
+    ap (ordering_then (nat_cmp (block_number r.blocks v) (block_number r.blocks u))) (kind_kept b.kind b.dependents u v s.counts t.counts o.counts e)
+
+pub keeps_order_of_symbols : (r : RankingValue) (a b : Symbol) (o : Operator) → IsTrue (is_derivative a) → IsTrue (is_derivative b) → HasFourExponents a → HasFourExponents b → ranking_cmp r (derivative_by o a) (derivative_by o b) ≡ ranking_cmp r a b
+keeps_order_of_symbols r (Independent i) b o d e f g = cc
+keeps_order_of_symbols r (Derivative u s) (Independent j) o d e f g = cc
+keeps_order_of_symbols r (Derivative u s) (Derivative v t) o d e f g = keeps_order r u v s t o (f ∙ sym g)
 
 -- ---- one derivation
 one_derivation : (i : ℕ) (a : Symbol) → derivative_by (record { counts = raised i [] }) a ≡ raised_symbol i a
@@ -152,5 +156,5 @@ one_is_proper (suc i) = omega (arith, sum_by-cons (λ x. x) 0 (raised i []), one
 pub grows_by_one : (r : RankingValue) (i : ℕ) (a : Symbol) → IsTrue (is_derivative a) → ranking_cmp r a (raised_symbol i a) ≡ Less
 grows_by_one r i a d = sym (ap (ranking_cmp r a) (one_derivation i a)) ∙ grows r a (record { counts = raised i [] }) d (one_is_proper i)
 
-pub keeps_order_by_one : (r : RankingValue) (i : ℕ) (a b : Symbol) → HaveOneLength a b → ranking_cmp r (raised_symbol i a) (raised_symbol i b) ≡ ranking_cmp r a b
-keeps_order_by_one r i a b e = sym (ap₂ (ranking_cmp r) (one_derivation i a) (one_derivation i b)) ∙ keeps_order r a b (record { counts = raised i [] }) e
+pub keeps_order_by_one : (r : RankingValue) (i u v : ℕ) (s t : Operator) → length s.counts ≡ length t.counts → ranking_cmp r (raised_symbol i (Derivative u s)) (raised_symbol i (Derivative v t)) ≡ ranking_cmp r (Derivative u s) (Derivative v t)
+keeps_order_by_one r i u v s t e = sym (ap₂ (ranking_cmp r) (one_derivation i (Derivative u s)) (one_derivation i (Derivative v t))) ∙ keeps_order r u v s t (record { counts = raised i [] }) e

@@ -1,5 +1,5 @@
 -- Derivation operators, derivatives and symbols.
-use Rattle.std.specs.Prelude.{◌≡◌, ◌<◌, ℕ, zero, suc, ◌+◌, Bool, true, false, List, [], ◌∷◌, length, drop, sum, max, All, IsTrue, ◌==◌}
+use Rattle.std.specs.Prelude.{◌≡◌, ⊤, ◌<◌, ℕ, zero, suc, ◌+◌, Bool, true, false, List, [], ◌∷◌, length, drop, sum, max, All, IsTrue, ◌==◌}
 use Rattle.dz_rank.specs.declared.rankings.Signature.{Signature}
 use Rattle.dz_rank.specs.declared.symbols.Operator.{Operator}
 use Rattle.dz_rank.specs.declared.symbols.Symbol.{Symbol}
@@ -18,6 +18,11 @@ pub record IsOperatorOf (n : ℕ) (t : Operator) : Type 0 where
 abbrev pub BelongsTo : Signature → Symbol → Type 0
 BelongsTo g (Independent i) = i < g.independents
 BelongsTo g (Derivative u t) = (u < g.dependents) × IsOperatorOf g.independents t
+
+-- a symbol whose operator, if it has one, has four exponents, as every symbol of the code
+abbrev pub HasFourExponents : Symbol → Type 0
+HasFourExponents (Independent i) = ⊤
+HasFourExponents (Derivative u t) = length t.counts ≡ 4
 
 abbrev pub is_derivative : Symbol → Bool
 is_derivative (Independent i) = false
@@ -81,9 +86,3 @@ pub record IsLeastCommon (a b w : Symbol) : Type 0 where
   pub first : IsDerivativeOf a w
   pub second : IsDerivativeOf b w
   pub least : (v : Symbol) → IsDerivativeOf a v → IsDerivativeOf b v → IsDerivativeOf w v
-
--- two derivatives whose operators are lists of one length, as all those of the code are
-abbrev pub HaveOneLength : Symbol → Symbol → Type 0
-HaveOneLength (Independent i) b = ⊥
-HaveOneLength (Derivative u s) (Independent j) = ⊥
-HaveOneLength (Derivative u s) (Derivative v t) = length s.counts ≡ length t.counts

@@ -8,10 +8,12 @@
 #![tactic(auto)]
 
 mod keys;
+mod laws;
 mod operations;
 mod rankings;
 mod symbols;
 
+pub use laws::{order_is_total, raising_grows, raising_keeps_order};
 pub use operations::{least_common, quotient, raise};
 pub use rankings::{Block, Kind, Ranking, Signature};
 pub use symbols::{Operator, Symbol};
