@@ -8,10 +8,10 @@ use Rattle.dz_rank.specs.declared.rankings.Kind.{Kind}
 use Rattle.dz_rank.specs.declared.rankings.Kind.TheVariants.{GrlexA, GrlexB, DegrevA, DegrevB, LexA}
 use Rattle.dz_rank.specs.declared.symbols.Operator.{Operator}
 use Rattle.dz_rank.specs.declared.symbols.Symbol.TheVariants.{Independent, Derivative}
-use Rattle.dz_rank.specs.Rankings.{RankingValue, BlockValue, ranking_cmp, block_number, block_at, by_block, by_kind, place}
+use Rattle.dz_rank.specs.Rankings.{RankingValue, BlockValue, ranking_cmp, block_number, block_at, by_block, by_kind, place_of}
 use Rattle.dz_rank.specs.Standings.{by_keys, standing_of}
 
-keys_are : (k : Kind) (us : List ℕ) (u v : ℕ) (s t : List ℕ) → by_keys k s t (nat_cmp (place v us) (place u us)) ≡ by_kind k us (u, s) (v, t)
+keys_are : (k : Kind) (us : List ℕ) (u v : ℕ) (s t : List ℕ) → by_keys k s t (nat_cmp (place_of v us) (place_of u us)) ≡ by_kind k us (u, s) (v, t)
 keys_are GrlexA us u v s t = refl
 keys_are GrlexB us u v s t = refl
 keys_are DegrevA us u v s t = refl
@@ -35,7 +35,7 @@ pub same_block : (r : RankingValue) (u v : ℕ) (s t : Operator) → nat_cmp (bl
 unfolding ranking_cmp
 same_block r u v s t h =
     let b = block_at r.blocks (block_number r.blocks u) in
-    ap (λ n. by_keys b.kind s.counts t.counts (nat_cmp (place v (block_at r.blocks n).dependents) (place u b.dependents))) (nat_cmp-IsAntisymmetric (block_number r.blocks v) (block_number r.blocks u) h)
+    ap (λ n. by_keys b.kind s.counts t.counts (nat_cmp (place_of v (block_at r.blocks n).dependents) (place_of u b.dependents))) (nat_cmp-IsAntisymmetric (block_number r.blocks v) (block_number r.blocks u) h)
     ∙ keys_are b.kind b.dependents u v s.counts t.counts
     ∙ sym (ap (λ o. ordering_then o (by_block b (u, s.counts) (v, t.counts))) h)
 

@@ -3,3 +3,5 @@ pub mod Exponents
 pub mod RankingOrders
 pub mod Raising
 pub mod CommonDerivatives
+pub mod BlockLists
+pub mod Tables

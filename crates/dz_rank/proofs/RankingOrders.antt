@@ -12,7 +12,7 @@ use Rattle.dz_rank.specs.declared.rankings.Kind.{Kind}
 use Rattle.dz_rank.specs.declared.rankings.Kind.TheVariants.{GrlexA, GrlexB, DegrevA, DegrevB, LexA}
 use Rattle.dz_rank.specs.declared.symbols.Symbol.{Symbol}
 use Rattle.dz_rank.specs.declared.symbols.Symbol.TheVariants.{Independent, Derivative}
-use Rattle.dz_rank.specs.Rankings.{RankingValue, BlockValue, ranking_cmp, place, block_number, block_at, by_order, by_lex, by_reverse_lex, by_place, by_kind, by_block, derivative_cmp, symbol_cmp}
+use Rattle.dz_rank.specs.Rankings.{RankingValue, BlockValue, ranking_cmp, place_of, block_number, block_at, by_order, by_lex, by_reverse_lex, by_place, by_kind, by_block, derivative_cmp, symbol_cmp}
 
 then_equal : (o u : Ordering) → ordering_then o u ≡ Equal → (o ≡ Equal) × (u ≡ Equal)
 then_equal Less u e = cc
@@ -32,7 +32,7 @@ by_kind_total k us = of k
     reverse_lex = back_total (on_total (λ d. reverse d.1) nat_list_cmp_total)
 
     placed : IsTotalOrder (by_place us)
-    placed = back_total (on_total (λ d. place d.0 us) nat_cmp_total)
+    placed = back_total (on_total (λ d. place_of d.0 us) nat_cmp_total)
 
     of : (k : Kind) → IsTotalOrder (by_kind k us)
     of GrlexA = then_total order (then_total lex placed)
@@ -44,12 +44,12 @@ by_kind_total k us = of k
 suc_same : (a b : ℕ) → suc a ≡ suc b → a ≡ b
 suc_same a b e = omega arith
 
-place_same : (us : List ℕ) (u v : ℕ) → place u us ≡ place v us → u ≡ v
+place_same : (us : List ℕ) (u v : ℕ) → place_of u us ≡ place_of v us → u ≡ v
 place_same [] u v e = e
-place_same (w ∷ us) u v e = by_tests (u == w) (v == w) refl refl e (place_same us u v)
+place_same (w ∷ us) u v e = by_tests (w == u) (w == v) refl refl e (place_same us u v)
   where
-    by_tests : (a b : Bool) → (u == w) ≡ a → (v == w) ≡ b → cond a 0 (suc (place u us)) ≡ cond b 0 (suc (place v us)) → (place u us ≡ place v us → u ≡ v) → u ≡ v
-    by_tests true true f g e ih = eqb-true u w f ∙ sym (eqb-true v w g)
+    by_tests : (a b : Bool) → (w == u) ≡ a → (w == v) ≡ b → cond a 0 (suc (place_of u us)) ≡ cond b 0 (suc (place_of v us)) → (place_of u us ≡ place_of v us → u ≡ v) → u ≡ v
+    by_tests true true f g e ih = sym (eqb-true w u f) ∙ eqb-true w v g
     by_tests true false f g e ih = absurd (omega arith)
     by_tests false true f g e ih = absurd (omega arith)
     by_tests false false f g e ih = ih (suc_same _ _ e)
@@ -64,7 +64,7 @@ reverse_lex_same : (d e : ℕ × List ℕ) → by_reverse_lex d e ≡ Equal → 
 reverse_lex_same d e h = sym (reverse_same e.1 d.1 (slice_cmp-IsAntisymmetric nat_cmp-IsAntisymmetric (reverse e.1) (reverse d.1) h))
 
 place_tied : (us : List ℕ) (d e : ℕ × List ℕ) → by_place us d e ≡ Equal → d.0 ≡ e.0
-place_tied us d e h = place_same us d.0 e.0 (sym (nat_cmp-IsAntisymmetric (place e.0 us) (place d.0 us) h))
+place_tied us d e h = place_same us d.0 e.0 (sym (nat_cmp-IsAntisymmetric (place_of e.0 us) (place_of d.0 us) h))
 
 by_kind_same : (k : Kind) (us : List ℕ) (d e : ℕ × List ℕ) → by_kind k us d e ≡ Equal → d ≡ e
 by_kind_same GrlexA us d e h = let b = then_equal _ _ (then_equal (by_order d e) _ h).1 in ap₂ (λ (x : ℕ) (y : List ℕ). (x, y)) (place_tied us d e b.1) (lex_same d e b.0)

@@ -1,12 +1,15 @@
 -- Rankings: blocks of dependents, each with a kind.
-use Rattle.std.specs.Prelude.{◌≡◌, ◌≢◌, ◌<◌, ◌≤◌, ℕ, zero, suc, ◌==◌, Bool, false, cond, ◌||◌, List, [], ◌∷◌, ◌++◌, map, reverse, sum, All}
-use Rattle.std.specs.List.{AllPairs, Contains, concat}
+use Rattle.std.specs.Prelude.{◌≡◌, ◌≢◌, ⊤, ◌<◌, ◌≤◌, ℕ, zero, suc, ◌==◌, Bool, cond, List, [], ◌∷◌, ◌++◌, length, take, slice_index_or, map, reverse, sum, All}
+use Rattle.std.specs.List.{AllPairs, Contains, concat, list_any}
 use Rattle.std.specs.declared.cmp.Ordering.{Ordering}
 use Rattle.std.specs.declared.cmp.Ordering.TheVariants.{Less, Greater}
 use Rattle.std.specs.Ordering.{nat_cmp, then_cmp, on, flip_args, ordering_then}
 use Rattle.std.specs.Cmp.Lexicographic.{slice_cmp}
 use Rattle.dz_rank.specs.declared.rankings.Kind.{Kind}
 use Rattle.dz_rank.specs.declared.rankings.Kind.TheVariants.{GrlexA, GrlexB, DegrevA, DegrevB, LexA}
+use Rattle.dz_rank.specs.declared.rankings.Block.{Block}
+use Rattle.dz_rank.specs.declared.rankings.RankFault.{RankFault}
+use Rattle.dz_rank.specs.declared.rankings.RankFault.TheVariants.{Memory, Twice, Missing}
 use Rattle.dz_rank.specs.declared.rankings.Signature.{Signature}
 use Rattle.dz_rank.specs.declared.symbols.Symbol.{Symbol}
 use Rattle.dz_rank.specs.declared.symbols.Symbol.TheVariants.{Independent, Derivative}
@@ -21,40 +24,61 @@ pub record RankingValue : Type 0 where
   pub signature : Signature
   pub blocks : List BlockValue
 
+-- blocks with their lists of dependents
+abbrev pub block_values : List Block → List BlockValue
+block_values bs = map (λ b. record { kind = b.kind; dependents = b.dependents.items }) bs
+
+-- the meaning of a signature and blocks
+abbrev pub ranking_value : Signature → List Block → RankingValue
+ranking_value g bs = record { signature = g; blocks = block_values bs }
+
 -- the dependents in the order in which the blocks name them
 abbrev pub dependents_of : List BlockValue → List ℕ
 dependents_of bs = concat (map (λ b. b.dependents) bs)
+
+-- no number stands twice
+pub record IsRepeatFree (us : List ℕ) : Type 0 where
+  pub apart : AllPairs (λ u v. u ≢ v) us
+
+-- each number below n stands
+pub record HasAllBelow (n : ℕ) (us : List ℕ) : Type 0 where
+  pub each : (u : ℕ) → u < n → Contains us u
 
 -- the blocks name each dependent of the signature once, and nothing else
 pub record IsRanking (r : RankingValue) : Type 0 where
   pub few_independents : r.signature.independents ≤ 4
   pub few_dependents : r.signature.dependents ≤ 16
-  pub below : All (λ u. u < r.signature.dependents) (dependents_of r.blocks)
-  pub once : AllPairs (λ u v. u ≢ v) (dependents_of r.blocks)
-  pub each : (u : ℕ) → u < r.signature.dependents → Contains (dependents_of r.blocks) u
+  pub only : All (λ u. u < r.signature.dependents) (dependents_of r.blocks)
+  pub once : IsRepeatFree (dependents_of r.blocks)
+  pub all : HasAllBelow r.signature.dependents (dependents_of r.blocks)
 
--- u is the first in a list that stands before already
+-- u is the first number that stands before already
 pub record IsFirstRepeat (us : List ℕ) (u : ℕ) : Type 0 where
-  pub before : List ℕ
-  pub after : List ℕ
-  pub split : us ≡ before ++ u ∷ after
-  pub apart : AllPairs (λ v w. v ≢ w) before
-  pub stands : Contains before u
+  pub at : ℕ
+  pub inside : at < length us
+  pub is : slice_index_or us at 0 ≡ u
+  pub once : IsRepeatFree (take at us)
+  pub stands : Contains (take at us) u
 
--- u is the least number below n that is not in a list
+-- u is the least number below n that is missing
 pub record IsLeastMissing (n : ℕ) (us : List ℕ) (u : ℕ) : Type 0 where
   pub below : u < n
   pub missing : Contains us u → ⊥
-  pub least : (v : ℕ) → v < u → Contains us v
+  pub smaller : HasAllBelow u us
+
+-- why a signature and blocks are no ranking; a missing dependent is told where none stands twice
+abbrev pub IsFaultOf : RankingValue → RankFault → Type 0
+IsFaultOf r Memory = ⊤
+IsFaultOf r (Twice u) = IsFirstRepeat (dependents_of r.blocks) u
+IsFaultOf r (Missing u) = IsRepeatFree (dependents_of r.blocks) × IsLeastMissing r.signature.dependents (dependents_of r.blocks) u
 
 -- where u stands in a list; past its end, at a number of u's own, where it does not
-abbrev pub place : ℕ → List ℕ → ℕ
-place u [] = u
-place u (v ∷ vs) = cond (u == v) 0 (suc (place u vs))
+abbrev pub place_of : ℕ → List ℕ → ℕ
+place_of u [] = u
+place_of u (v ∷ vs) = cond (v == u) 0 (suc (place_of u vs))
 
 abbrev pub stands_in : ℕ → List ℕ → Bool
-stands_in u [] = false
-stands_in u (v ∷ vs) = (u == v) || stands_in u vs
+stands_in u us = list_any (λ v. v == u) us
 
 -- the number of the block of u; past the last block where it stands in none
 abbrev pub block_number : List BlockValue → ℕ → ℕ
@@ -81,7 +105,7 @@ by_reverse_lex = flip_args (on (λ d. reverse d.1) (slice_cmp nat_cmp))
 
 -- the dependent that stands earlier in the block is greater
 abbrev pub by_place : List ℕ → ℕ × List ℕ → ℕ × List ℕ → Ordering
-by_place us = flip_args (on (λ d. place d.0 us) nat_cmp)
+by_place us = flip_args (on (λ d. place_of d.0 us) nat_cmp)
 
 -- two derivatives of a block, by the keys of its kind in turn
 abbrev pub by_kind : Kind → List ℕ → ℕ × List ℕ → ℕ × List ℕ → Ordering

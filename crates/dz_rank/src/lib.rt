@@ -10,10 +10,11 @@
 mod keys;
 mod laws;
 mod operations;
+mod placing;
 mod rankings;
 mod symbols;
 
 pub use laws::{order_is_total, raising_grows, raising_keeps_order};
 pub use operations::{least_common, quotient, raise};
-pub use rankings::{Block, Kind, Ranking, Signature};
+pub use rankings::{Block, Kind, RankFault, Ranking, Signature};
 pub use symbols::{Operator, Symbol};

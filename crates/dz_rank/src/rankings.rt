@@ -3,9 +3,12 @@
 ghost use Rattle.std.specs.Prelude.{◌≡◌};
 
 use crate::keys::compare_in_block;
+use crate::placing::{copy_blocks, find_standings, first_repeat, least_missing, named_dependents};
 use crate::symbols::Symbol;
+use std::alloc::Global;
 use std::cmp::Ordering;
 use std::marker::Model;
+use thiserror::Error;
 
 /// How the derivatives of a block are compared: by the listed keys in turn.
 #[derive(Clone, Copy, Debug, PartialEq, Eq)]
@@ -37,12 +40,25 @@ pub struct Signature {
     pub dependents: u8,
 }
 
+/// Why blocks are no ranking of a signature.
+#[derive(Debug, Drop, PartialEq, Eq, Error)]
+pub enum RankFault {
+    #[error("out of memory")]
+    Memory,
+    /// The first dependent in the order of the blocks that stands before already.
+    #[error("dependent {0} stands twice")]
+    Twice(u8),
+    /// The least dependent of the signature that stands nowhere, where none stands twice.
+    #[error("dependent {0} is missing")]
+    Missing(u8),
+}
+
 /// Where a dependent stands: the number of its block, its kind, and the place in the block.
 #[derive(Clone, Copy)]
 pub(crate) struct Standing {
-    block: usize,
-    kind: Kind,
-    place: usize,
+    pub(crate) block: usize,
+    pub(crate) kind: Kind,
+    pub(crate) place: usize,
 }
 
 /// A total order of the symbols of a signature that goes with derivation.
@@ -55,25 +71,52 @@ pub struct Ranking {
 }
 
 impl Model for Ranking {
-    ghost use Rattle.std.specs.Prelude.{◌≡◌, ℕ, map, length};
-    ghost use Rattle.dz_rank.specs.Rankings.{RankingValue, IsRanking};
-    ghost use Rattle.dz_rank.specs.Standings.{standing_of, standing_in};
+    ghost use Rattle.dz_rank.specs.Rankings.{RankingValue, ranking_value};
+    ghost use Rattle.dz_rank.specs.Standings.{IsTabled};
 
     ghost Value = { RankingValue };
 
-    ghost view = { λ r. record {
-        signature = r.signature;
-        blocks = map (λ b. record { kind = b.kind; dependents = b.dependents.items }) r.blocks.items;
-    } };
+    ghost view = { λ r. ranking_value r.signature r.blocks.items };
 
-    ghost invariant = { λ r. (u : ℕ) → standing_in r.standings.items (length r.blocks.items) u
-        ≡ standing_of (map (λ b. record { kind = b.kind; dependents = b.dependents.items }) r.blocks.items) u };
+    ghost invariant = { λ r. IsTabled (ranking_value r.signature r.blocks.items) r.standings.items };
 }
 
 impl Ranking {
-    ghost use Rattle.std.specs.Prelude.{◌≡◌};
-    ghost use Rattle.dz_rank.specs.Rankings.{ranking_cmp};
+    ghost use Rattle.std.specs.Prelude.{◌≡◌, ◌≤◌, ◌<◌, IfOk, IfErr, All};
+    ghost use Rattle.dz_rank.specs.Rankings.{block_values, dependents_of, ranking_value};
+    ghost use Rattle.dz_rank.specs.Rankings.{IsRanking, IsFaultOf, ranking_cmp};
     ghost use Rattle.dz_rank.specs.Standings.{standing_of};
+
+    /// The ranking of a signature by its blocks, the greatest first.
+    pub fn new(
+        alloc: Global,
+        signature: Signature,
+        blocks: &[Block],
+    ) -> Result<Ranking, RankFault>
+        requires few_independents { signature.independents ≤ 4 }
+        requires few_dependents { signature.dependents ≤ 16 }
+        requires below { All (λ u. u < signature.dependents)
+            (dependents_of (block_values blocks.now)) }
+        ensures value { IfOk result (λ ranking. ranking ≡ ranking_value signature blocks.now) }
+        ensures made { IfOk result (λ ranking. IsRanking ranking) }
+        ensures fault { IfErr result (λ e. IsFaultOf (ranking_value signature blocks.now) e) }
+    {
+        let named = named_dependents(alloc, blocks).map_err(|_| RankFault::Memory)?;
+        if let Some(dependent) = first_repeat(&named) {
+            return Err(RankFault::Twice(dependent));
+        }
+        if let Some(dependent) = least_missing(&named, signature.dependents) {
+            return Err(RankFault::Missing(dependent));
+        }
+        let standings = find_standings(alloc, blocks, signature.dependents)
+            .map_err(|_| RankFault::Memory)?;
+        let blocks = copy_blocks(alloc, blocks).map_err(|_| RankFault::Memory)?;
+        Ok(Ranking {
+            signature,
+            blocks,
+            standings,
+        })
+    }
 
     /// The signature that was handed to `new`.
     pub fn signature(&self) -> Signature
