@@ -1,12 +1,13 @@
 //! How blocks become the table of a ranking.
 
-ghost use Rattle.std.specs.Prelude.{◌≡◌, true, false, IfOk, MatchOption, map};
+ghost use Rattle.std.specs.Prelude.{◌≡◌, ◌<◌, ◌≤◌, true, false, IfOk, OnOk, IfErr, MatchOption, All, map};
 ghost use Rattle.std.specs.List.{range_with_len};
 ghost use Rattle.dz_rank.specs.Rankings.{block_values, dependents_of, IsFirstRepeat, IsLeastMissing};
-ghost use Rattle.dz_rank.specs.Rankings.{IsRepeatFree, HasAllBelow, stands_in, place_of};
+ghost use Rattle.dz_rank.specs.Rankings.{ranking_value, IsRepeatFree, HasAllBelow, IsRanking, IsFaultOf};
+ghost use Rattle.dz_rank.specs.Rankings.{stands_in, place_of};
 ghost use Rattle.dz_rank.specs.Standings.{standing_of};
 
-use crate::rankings::{Block, Kind, Standing};
+use crate::rankings::{Block, Kind, RankFault, Signature, Standing};
 use std::alloc::{AllocError, Global};
 
 /// All dependents in the order in which the blocks name them.
@@ -59,6 +60,27 @@ pub(crate) fn least_missing(dependents: &[u8], count: u8) -> Option<u8>
         }
     }
     None
+}
+
+#[tactic(auto, using(crate::proofs::Tables::is_ranking))]
+/// Tests whether blocks name each dependent of a signature once.
+pub(crate) fn check_names(
+    alloc: Global,
+    signature: Signature,
+    blocks: &[Block],
+) -> Result<(), RankFault>
+    requires few_independents { signature.independents ≤ 4 }
+    requires few_dependents { signature.dependents ≤ 16 }
+    requires below { All (λ u. u < signature.dependents) (dependents_of (block_values blocks.now)) }
+    ensures made { OnOk result (IsRanking (ranking_value signature blocks.now)) }
+    ensures fault { IfErr result (λ e. IsFaultOf (ranking_value signature blocks.now) e) }
+{
+    let named = named_dependents(alloc, blocks).map_err(|_| RankFault::Memory)?;
+    match (first_repeat(&named), least_missing(&named, signature.dependents)) {
+        (Some(dependent), _) => Err(RankFault::Twice(dependent)),
+        (None, Some(dependent)) => Err(RankFault::Missing(dependent)),
+        (None, None) => Ok(()),
+    }
 }
 
 /// Where a dependent stands in a block.

@@ -3,7 +3,7 @@
 ghost use Rattle.std.specs.Prelude.{◌≡◌};
 
 use crate::keys::compare_in_block;
-use crate::placing::{copy_blocks, find_standings, first_repeat, least_missing, named_dependents};
+use crate::placing::{check_names, copy_blocks, find_standings};
 use crate::symbols::Symbol;
 use std::alloc::Global;
 use std::cmp::Ordering;
@@ -82,11 +82,12 @@ impl Model for Ranking {
 }
 
 impl Ranking {
-    ghost use Rattle.std.specs.Prelude.{◌≡◌, ◌≤◌, ◌<◌, IfOk, IfErr, All};
+    ghost use Rattle.std.specs.Prelude.{◌≡◌, ◌≤◌, ◌<◌, IfOk, OnOk, IfErr, All};
     ghost use Rattle.dz_rank.specs.Rankings.{block_values, dependents_of, ranking_value};
     ghost use Rattle.dz_rank.specs.Rankings.{IsRanking, IsFaultOf, ranking_cmp};
     ghost use Rattle.dz_rank.specs.Standings.{standing_of};
 
+    #[tactic(auto, using(crate::proofs::Tables::tabled_copy))]
     /// The ranking of a signature by its blocks, the greatest first.
     pub fn new(
         alloc: Global,
@@ -98,16 +99,10 @@ impl Ranking {
         requires below { All (λ u. u < signature.dependents)
             (dependents_of (block_values blocks.now)) }
         ensures value { IfOk result (λ ranking. ranking ≡ ranking_value signature blocks.now) }
-        ensures made { IfOk result (λ ranking. IsRanking ranking) }
+        ensures made { OnOk result (IsRanking (ranking_value signature blocks.now)) }
         ensures fault { IfErr result (λ e. IsFaultOf (ranking_value signature blocks.now) e) }
     {
-        let named = named_dependents(alloc, blocks).map_err(|_| RankFault::Memory)?;
-        if let Some(dependent) = first_repeat(&named) {
-            return Err(RankFault::Twice(dependent));
-        }
-        if let Some(dependent) = least_missing(&named, signature.dependents) {
-            return Err(RankFault::Missing(dependent));
-        }
+        check_names(alloc, signature, blocks)?;
         let standings = find_standings(alloc, blocks, signature.dependents)
             .map_err(|_| RankFault::Memory)?;
         let blocks = copy_blocks(alloc, blocks).map_err(|_| RankFault::Memory)?;
