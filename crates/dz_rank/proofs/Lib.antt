@@ -5,3 +5,4 @@ pub mod Raising
 pub mod CommonDerivatives
 pub mod BlockLists
 pub mod Tables
+pub mod Orderly

@@ -1,5 +1,5 @@
 -- Rankings: blocks of dependents, each with a kind.
-use Rattle.std.specs.Prelude.{◌≡◌, ◌≢◌, ⊤, ◌<◌, ◌≤◌, ℕ, zero, suc, ◌==◌, Bool, cond, List, [], ◌∷◌, ◌++◌, length, take, slice_index_or, map, reverse, sum, All}
+use Rattle.std.specs.Prelude.{◌≡◌, ◌≢◌, ⊤, IsTrue, ◌<◌, ◌≤◌, ℕ, zero, suc, ◌==◌, Bool, cond, List, [], ◌∷◌, ◌++◌, length, take, slice_index_or, map, reverse, sum, All}
 use Rattle.std.specs.List.{AllPairs, Contains, concat, list_any}
 use Rattle.std.specs.declared.cmp.Ordering.{Ordering}
 use Rattle.std.specs.declared.cmp.Ordering.TheVariants.{Less, Greater}
@@ -13,6 +13,7 @@ use Rattle.dz_rank.specs.declared.rankings.RankFault.TheVariants.{Memory, Twice,
 use Rattle.dz_rank.specs.declared.rankings.Signature.{Signature}
 use Rattle.dz_rank.specs.declared.symbols.Symbol.{Symbol}
 use Rattle.dz_rank.specs.declared.symbols.Symbol.TheVariants.{Independent, Derivative}
+use Rattle.dz_rank.specs.Symbols.{is_derivative, total_order, BelongsTo}
 
 -- a block with the list of its dependents
 pub record BlockValue : Type 0 where
@@ -132,3 +133,7 @@ symbol_cmp bs (Derivative u s) (Derivative v t) = derivative_cmp bs (u, s.counts
 -- the order of symbols under a ranking
 unfoldable pub ranking_cmp : RankingValue → Symbol → Symbol → Ordering
 ranking_cmp r = symbol_cmp r.blocks
+
+-- a greater total order always makes a greater derivative
+pub record IsOrderly (r : RankingValue) : Type 0 where
+  pub greater : (a b : Symbol) → IsTrue (is_derivative a) → IsTrue (is_derivative b) → BelongsTo r.signature a → BelongsTo r.signature b → total_order a < total_order b → ranking_cmp r a b ≡ Less

@@ -1,5 +1,5 @@
 -- Where a dependent stands under a ranking, and the table of it. No public clause cites this file.
-use Rattle.std.specs.Prelude.{◌≡◌, ℕ, List, length, reverse, sum, slice_index_or}
+use Rattle.std.specs.Prelude.{◌≡◌, ◌<◌, ℕ, List, length, reverse, sum, slice_index_or}
 use Rattle.std.specs.declared.cmp.Ordering.{Ordering}
 use Rattle.std.specs.Ordering.{nat_cmp, ordering_then}
 use Rattle.std.specs.Cmp.Lexicographic.{slice_cmp}
@@ -24,6 +24,10 @@ standing_in table n u = slice_index_or table u (record { block = n; kind = LexA;
 pub record IsTabled (r : RankingValue) (table : List Standing) : Type 0 where
   pub ranking : IsRanking r
   pub standings : (u : ℕ) → standing_in table (length r.blocks) u ≡ standing_of r.blocks u
+
+-- the dependents below n stand in the block of the first
+pub record HaveOneBlock (n : ℕ) (bs : List BlockValue) : Type 0 where
+  pub each : (u : ℕ) → u < n → block_number bs u ≡ block_number bs 0
 
 -- the keys of a kind in turn, where the order of the places is known
 abbrev pub by_keys : Kind → List ℕ → List ℕ → Ordering → Ordering

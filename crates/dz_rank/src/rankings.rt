@@ -82,10 +82,10 @@ impl Model for Ranking {
 }
 
 impl Ranking {
-    ghost use Rattle.std.specs.Prelude.{◌≡◌, ◌≤◌, ◌<◌, IfOk, OnOk, IfErr, All};
+    ghost use Rattle.std.specs.Prelude.{◌≡◌, ◌≢◌, ◌≤◌, ◌<◌, ◌↔◌, ℕ, IsTrue, MatchBool, IfOk, OnOk, IfErr, All};
     ghost use Rattle.dz_rank.specs.Rankings.{block_values, dependents_of, ranking_value};
-    ghost use Rattle.dz_rank.specs.Rankings.{IsRanking, IsFaultOf, ranking_cmp};
-    ghost use Rattle.dz_rank.specs.Standings.{standing_of};
+    ghost use Rattle.dz_rank.specs.Rankings.{IsRanking, IsFaultOf, IsOrderly, block_number, ranking_cmp};
+    ghost use Rattle.dz_rank.specs.Standings.{HaveOneBlock, standing_of};
 
     #[tactic(auto, using(crate::proofs::Tables::tabled_copy))]
     /// The ranking of a signature by its blocks, the greatest first.
@@ -132,6 +132,44 @@ impl Ranking {
                 place: dependent as usize,
             },
         }
+    }
+
+    #[tactic(auto, using(
+        crate::proofs::Orderly::none_in_block,
+        crate::proofs::Orderly::one_more_in_block,
+        crate::proofs::Orderly::all_in_block,
+    ))]
+    /// Whether all dependents stand in the block of the first.
+    fn has_one_block(&self) -> bool
+        ensures { MatchBool result
+            (HaveOneBlock self.now.signature.dependents self.now.blocks)
+            ((u : ℕ) × (u < self.now.signature.dependents)
+                × (block_number self.now.blocks u ≢ block_number self.now.blocks 0)) }
+    {
+        for u in 0..self.signature.dependents {
+            if self.standing(u).block != self.standing(0).block {
+                return false;
+            }
+        }
+        true
+    }
+
+    #[tactic(auto, using(
+        crate::proofs::Orderly::orderly_without_independents,
+        crate::proofs::Orderly::orderly_without_dependents,
+        crate::proofs::Orderly::orderly_of_one_block,
+        crate::proofs::Orderly::not_orderly_of_two_blocks,
+        crate::proofs::Orderly::not_orderly_of_lex,
+    ))]
+    /// Whether a greater total order always makes a greater derivative.
+    pub fn is_orderly(&self) -> bool
+        ensures { IsTrue result ↔ IsOrderly self.now }
+    {
+        let independents = self.signature.independents;
+        if independents == 0 || self.signature.dependents == 0 {
+            return true;
+        }
+        self.has_one_block() && (independents == 1 || self.standing(0).kind != Kind::LexA)
     }
 
     /// Compares two symbols in constant time.
