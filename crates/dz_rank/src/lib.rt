@@ -13,6 +13,8 @@ mod operations;
 mod placing;
 mod rankings;
 mod symbols;
+#[cfg(test)]
+mod tests;
 
 pub use laws::{order_is_total, raising_grows, raising_keeps_order};
 pub use operations::{least_common, quotient, raise};

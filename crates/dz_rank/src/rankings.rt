@@ -115,7 +115,8 @@ impl Ranking {
 
     /// The signature that was handed to `new`.
     pub fn signature(&self) -> Signature
-        ensures { result ≡ self.now.signature }
+        ensures value { result ≡ self.now.signature }
+        ensures ranking { IsRanking self.now }
     {
         self.signature
     }
