@@ -59,8 +59,8 @@ ring_laws cmp order = record {
   product_distributes = λ p q s h g k. polynomial_product_distributes order p q s h g k;
 }
 
-pub derivation_laws : {S : Type 0} (cmp : S → S → Ordering) → IsOrder cmp → (rate : S → Rate S) → DerivationLaws cmp rate
-derivation_laws cmp order rate = record {
+pub derivation_laws : {S : Type 0} (cmp : S → S → Ordering) (rate : S → Rate S) → IsOrder cmp → DerivationLaws cmp rate
+derivation_laws cmp rate order = record {
   derivative_is = λ p h. polynomial_derivative_is order rate p h;
   of_sum = λ p q h g. ap (λ x. x.0) (additive order rate (p, h) (q, g));
   of_product = λ p q h g. ap (λ x. x.0) (leibniz order rate (p, h) (q, g));

@@ -42,10 +42,13 @@ each_with_power cmp s e (t ∷ ts) = (with_power cmp s e t.0, t.1) ∷ each_with
 -- the exponent, at the monomial with the symbol taken once less times the symbol's derivative
 abbrev pub term_derivative : {S : Type 0} → (S → S → Ordering) → (S → Rate S) → Monomial S → ℤ → Contributions S
 term_derivative cmp rate [] c = []
-term_derivative cmp rate (p ∷ m) c = times_rate cmp (rate p.0) (once_less p.0 p.1 m) (c *ℤ pos p.1) ++ each_with_power cmp p.0 p.1 (term_derivative cmp rate m c)
+term_derivative cmp rate (p ∷ m) c =
+    times_rate cmp (rate p.0) (once_less p.0 p.1 m) (c *ℤ pos p.1)
+    ++ each_with_power cmp p.0 p.1 (term_derivative cmp rate m c)
 
 -- the contributions of a derivation, term by term
-abbrev pub derivative_contributions : {S : Type 0} → (S → S → Ordering) → (S → Rate S) → Polynomial S → Contributions S
+abbrev pub derivative_contributions : {S : Type 0} → (S → S → Ordering) → (S → Rate S) → Polynomial S
+    → Contributions S
 derivative_contributions cmp rate [] = []
 derivative_contributions cmp rate (t ∷ p) = term_derivative cmp rate t.0 t.1 ++ derivative_contributions cmp rate p
 

@@ -93,9 +93,11 @@ steep = ((u, 1) ∷ [], pos 1) ∷ ((x, 65536) ∷ [], pos 1) ∷ []
 -- derivation, leader, initial, separant and norm
 pub record DerivationExamples : Type 0 where
   -- the derivative of u[x]^2 - 4*u by x is 2*u[x]*u[x,x] - 4*u[x]
-  pub conic_by_x : polynomial_derivative letter_cmp (letter_rate 0) conic ≡ ((u_xx, 1) ∷ (u_x, 1) ∷ [], pos 2) ∷ ((u_x, 1) ∷ [], minus 4) ∷ []
+  pub conic_by_x : polynomial_derivative letter_cmp (letter_rate 0) conic
+      ≡ ((u_xx, 1) ∷ (u_x, 1) ∷ [], pos 2) ∷ ((u_x, 1) ∷ [], minus 4) ∷ []
   -- that of x*u by x is x*u[x] + u, and that by y is x*u[y]
-  pub mixed_by_x : polynomial_derivative letter_cmp (letter_rate 0) mixed ≡ ((u_x, 1) ∷ (x, 1) ∷ [], pos 1) ∷ ((u, 1) ∷ [], pos 1) ∷ []
+  pub mixed_by_x : polynomial_derivative letter_cmp (letter_rate 0) mixed
+      ≡ ((u_x, 1) ∷ (x, 1) ∷ [], pos 1) ∷ ((u, 1) ∷ [], pos 1) ∷ []
   pub mixed_by_y : polynomial_derivative letter_cmp (letter_rate 1) mixed ≡ ((u_y, 1) ∷ (x, 1) ∷ [], pos 1) ∷ []
   -- u[x]^2 - 4*u has the leader u[x], the initial 1 and the separant 2*u[x]
   pub leader_of_conic : leader letters conic ≡ Some u_x
@@ -107,10 +109,12 @@ pub record DerivationExamples : Type 0 where
 -- contributions, size and fitting
 pub record OperationExamples : Type 0 where
   -- the product of u + x and u - x has four contributions, and is u^2 - x^2
-  pub cancelling : (pairs letter_cmp plus_x minus_x ≡ ((u, 2) ∷ [], pos 1) ∷ ((u, 1) ∷ (x, 1) ∷ [], minus 1) ∷ ((u, 1) ∷ (x, 1) ∷ [], pos 1) ∷ ((x, 2) ∷ [], minus 1) ∷ [])
+  pub cancelling : (pairs letter_cmp plus_x minus_x ≡
+      ((u, 2) ∷ [], pos 1) ∷ ((u, 1) ∷ (x, 1) ∷ [], minus 1) ∷ ((u, 1) ∷ (x, 1) ∷ [], pos 1) ∷ ((x, 2) ∷ [], minus 1) ∷ [])
       × (polynomial_product letter_cmp plus_x minus_x ≡ ((u, 2) ∷ [], pos 1) ∷ ((x, 2) ∷ [], minus 1) ∷ [])
   -- its support has three monomials, with that at which the contributions cancel
-  pub kept : support letter_cmp (pairs letter_cmp plus_x minus_x) ≡ ((u, 2) ∷ []) ∷ ((u, 1) ∷ (x, 1) ∷ []) ∷ ((x, 2) ∷ []) ∷ []
+  pub kept : support letter_cmp (pairs letter_cmp plus_x minus_x)
+      ≡ ((u, 2) ∷ []) ∷ ((u, 1) ∷ (x, 1) ∷ []) ∷ ((x, 2) ∷ []) ∷ []
   -- the difference of u + x^65536 and x^65536 is u, and is large by the exponent
   pub steep_is_large : (polynomial_difference letter_cmp steep (((x, 65536) ∷ [], pos 1) ∷ []) ≡ times_u (pos 1))
       × (difference_answer letters steep (((x, 65536) ∷ [], pos 1) ∷ []) ≡ Err (large limits.Exponent))

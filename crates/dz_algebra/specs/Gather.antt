@@ -21,4 +21,8 @@ gather cmp add rs = onto cmp add rs []
 abbrev pub merge : {K V : Type 0} → (K → K → Ordering) → (V → V → V) → List (K × V) → List (K × V) → List (K × V)
 merge cmp add [] rs = rs
 merge cmp add (t ∷ ts) [] = t ∷ ts
-merge cmp add (t ∷ ts) (r ∷ rs) = match_ordering (cmp r.0 t.0) (t ∷ merge cmp add ts (r ∷ rs)) ((t.0, add r.1 t.1) ∷ merge cmp add ts rs) (r ∷ merge cmp add (t ∷ ts) rs)
+merge cmp add (t ∷ ts) (r ∷ rs) =
+    match_ordering (cmp r.0 t.0)
+    (t ∷ merge cmp add ts (r ∷ rs))
+    ((t.0, add r.1 t.1) ∷ merge cmp add ts rs)
+    (r ∷ merge cmp add (t ∷ ts) rs)

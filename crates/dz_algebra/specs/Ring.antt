@@ -61,7 +61,8 @@ module _ {R : Type 0} (r : Ring R) where
   pub product_swaps : (a b c : R) → r.product a (r.product b c) ≡ r.product b (r.product a c)
   product_swaps a b c = sym (r.product_associates a b c) ∙ ap (λ x. r.product x c) (r.product_commutes a b) ∙ r.product_associates b a c
 
-  pub product_of_products : (a b c d : R) → r.product (r.product a b) (r.product c d) ≡ r.product (r.product a c) (r.product b d)
+  pub product_of_products : (a b c d : R) → r.product (r.product a b) (r.product c d)
+      ≡ r.product (r.product a c) (r.product b d)
   product_of_products a b c d = simp (r.product_associates, r.product_commutes, product_swaps)
 
   pub sum_times : (a b c : R) → r.product (r.sum a b) c ≡ r.sum (r.product a c) (r.product b c)

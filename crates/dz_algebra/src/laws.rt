@@ -47,7 +47,7 @@ pub fn polynomials_are_a_ring<S>()
 /// A derivation is additive and obeys Leibniz' rule.
 #[tactic(auto, using(crate::proofs::LawProofs::derivation_laws))]
 pub fn derivation_obeys_leibniz<S>()
-    ensures { (cmp : S → S → Ordering) → IsOrder cmp → (rate : S → Rate S) → DerivationLaws cmp rate }
+    ensures { (cmp : S → S → Ordering) (rate : S → Rate S) → IsOrder cmp → DerivationLaws cmp rate }
 {}
 
 /// Two derivations commute, if they do at each symbol.
@@ -80,11 +80,16 @@ pub fn operations_answer_polynomials<S>()
     ensures { (g : Symbols S) → IsOrder g.cmp → OperationLaws g }
 {}
 
-/// The definitions answer worked examples as they were computed by hand.
-#[tactic(auto, using(crate::proofs::ExampleProofs::derivation_examples, crate::proofs::ExampleProofs::operation_examples,))]
-pub fn worked_examples()
-    ensures derivation { DerivationExamples }
-    ensures operation { OperationExamples }
+/// Derivatives, parts and norms of worked examples are as they were computed by hand.
+#[tactic(auto, using(crate::proofs::ExampleProofs::derivation_examples))]
+pub fn worked_derivations()
+    ensures { DerivationExamples }
+{}
+
+/// Contributions, supports and answers of worked operations are as they were computed by hand.
+#[tactic(auto, using(crate::proofs::ExampleProofs::operation_examples))]
+pub fn worked_operations()
+    ensures { OperationExamples }
 {}
 
 /// The value of a sum is the sum of the values, and so for products and derivatives.
