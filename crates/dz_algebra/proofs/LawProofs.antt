@@ -20,6 +20,7 @@ use Rattle.dz_algebra.proofs.Divisors.{gcd_is}
 use Rattle.dz_algebra.proofs.Norms.{signed_content_nonzero, scaled_norm}
 use Rattle.dz_algebra.proofs.NormLaws.{norm_is, norm_idempotent, norm_of_scaled}
 use Rattle.dz_algebra.proofs.Operations.{operation_is, operation_canonical, nonzero_gathered, product_left_zero, product_right_zero}
+use Rattle.dz_algebra.proofs.OperationOrder.{same_operation, factors_swap}
 use Rattle.dz_algebra.proofs.DomainValues.{value_is_value, value_of_sum, value_of_difference, value_of_product, value_of_norm, value_of_derivative, nonzero_value}
 
 pub difference_is : {S : Type 0} {cmp : S → S → Ordering} → IsOrder cmp → (p q : Polynomial S) → IsPolynomial cmp p → IsPolynomial cmp q → IsPolynomial cmp (polynomial_difference cmp p q)
@@ -98,6 +99,8 @@ operation_laws g order = record {
   answer = λ ts p e. operation_is g ts p e;
   canonical = λ ts p h e. operation_canonical g order ts h p e;
   amounts_make = λ ts. nonzero_gathered order ts;
+  sums_alone = λ ts us e. same_operation g order ts us e;
+  factors_swap = λ p q h k. factors_swap g order p q h k;
   left_zero = λ p. product_left_zero g p;
   right_zero = λ p. product_right_zero g p;
 }

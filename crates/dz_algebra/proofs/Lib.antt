@@ -23,3 +23,5 @@ pub mod LawProofs
 pub mod ExampleProofs
 pub mod Leaders
 pub mod Coefficients
+pub mod SameAmounts
+pub mod OperationOrder

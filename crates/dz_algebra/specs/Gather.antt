@@ -1,5 +1,5 @@
 -- What contributions with values of any kind make at their keys (this project).
-use Rattle.std.specs.Prelude.{List, [], ◌∷◌}
+use Rattle.std.specs.Prelude.{List, [], ◌∷◌, Option, Some, None}
 use Rattle.std.specs.declared.cmp.Ordering.{Ordering}
 use Rattle.std.specs.Ordering.{match_ordering}
 
@@ -26,3 +26,14 @@ merge cmp add (t ∷ ts) (r ∷ rs) =
     (t ∷ merge cmp add ts (r ∷ rs))
     ((t.0, add r.1 t.1) ∷ merge cmp add ts rs)
     (r ∷ merge cmp add (t ∷ ts) rs)
+
+-- the sum of two values, where there are any
+abbrev pub joined : {V : Type 0} → (V → V → V) → Option V → Option V → Option V
+joined add None y = y
+joined add (Some v) None = Some v
+joined add (Some v) (Some w) = Some (add v w)
+
+-- what lands at a key: the sum of the values there, if there is one
+abbrev pub landed : {K V : Type 0} → (K → K → Ordering) → (V → V → V) → K → List (K × V) → Option V
+landed cmp add k [] = None
+landed cmp add k (r ∷ rs) = joined add (match_ordering (cmp k r.0) None (Some r.1) None) (landed cmp add k rs)

@@ -11,7 +11,8 @@ use Rattle.dz_algebra.specs.Derivation.{Rate, RatesCommute, rate_polynomial, pol
 use Rattle.dz_algebra.specs.Symbols.{Symbols}
 use Rattle.dz_algebra.specs.Parts.{degree, coefficient_of, initial, is_ground, leader}
 use Rattle.dz_algebra.specs.Norm.{gcd, signed_content, norm}
-use Rattle.dz_algebra.specs.Amount.{gathered, nonzero}
+use Rattle.dz_algebra.specs.Amount.{amounts, add_amounts, gathered, nonzero}
+use Rattle.dz_algebra.specs.Gather.{landed}
 use Rattle.dz_algebra.specs.Size.{operation}
 use Rattle.dz_algebra.specs.Value.{value, whole_in, rate_value}
 
@@ -97,12 +98,18 @@ pub record NormLaws {S : Type 0} (cmp : S → S → Ordering) : Type 0 where
   pub idempotent : (p : Polynomial S) → IsPolynomial cmp p → norm (norm p) ≡ norm p
   pub of_multiple : (k : ℤ) (p : Polynomial S) → k ≢ pos 0 → IsPolynomial cmp p → norm (scaled k p) ≡ norm p
 
--- what an operation answers, where it is not refused
+-- what an operation answers: where it is not refused, the polynomial that its contributions make; it depends only on what
+-- lands at each monomial, so on no order of adding; a product with zero is never refused
 pub record OperationLaws {S : Type 0} (g : Symbols S) : Type 0 where
   pub answer : (ts : Contributions S) (p : Polynomial S) → operation g ts ≡ Ok p → collect (monomial_cmp g.cmp) ts ≡ p
   pub canonical : (ts : Contributions S) (p : Polynomial S) → AreMonomials g.cmp ts → operation g ts ≡ Ok p
       → IsPolynomial g.cmp p
   pub amounts_make : (ts : Contributions S) → nonzero (gathered g.cmp ts) ≡ collect (monomial_cmp g.cmp) ts
+  pub sums_alone : (ts us : Contributions S)
+      → ((n : Monomial S) → landed (monomial_cmp g.cmp) add_amounts n (amounts ts) ≡ landed (monomial_cmp g.cmp) add_amounts n (amounts us))
+      → operation g ts ≡ operation g us
+  pub factors_swap : (p q : Polynomial S) → IsPolynomial g.cmp p → IsPolynomial g.cmp q
+      → operation g (pairs g.cmp p q) ≡ operation g (pairs g.cmp q p)
   pub left_zero : (p : Polynomial S) → operation g (pairs g.cmp [] p) ≡ Ok []
   pub right_zero : (p : Polynomial S) → operation g (pairs g.cmp p []) ≡ Ok []
 
