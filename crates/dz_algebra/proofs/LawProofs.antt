@@ -8,7 +8,7 @@ use Rattle.dz_algebra.specs.Polynomial.{Polynomial, IsPolynomial, PolynomialIn, 
 use Rattle.dz_algebra.specs.Derivation.{Rate}
 use Rattle.dz_algebra.specs.Symbols.{Symbols}
 use Rattle.dz_algebra.specs.Value.{value}
-use Rattle.dz_algebra.specs.Laws.{CoefficientLaws, ClosureLaws, RingLaws, DerivationLaws, DerivationsCommute, PowerLaws, LeaderLaws, NormLaws, OperationLaws, ValueLaws, AreIndependent}
+use Rattle.dz_algebra.specs.Laws.{CoefficientLaws, ClosureLaws, RingLaws, DerivationLaws, DerivationsCommute, PowerLaws, LeaderLaws, SymbolLaws, NormLaws, OperationLaws, ValueLaws, AreIndependent}
 use Rattle.dz_algebra.proofs.Orders.{same_monomial}
 use Rattle.dz_algebra.proofs.Canonical.{collect_is, are_monomials, monomials-append, coefficient_collect, same_polynomial, polynomial_sum_commutes}
 use Rattle.dz_algebra.proofs.Products.{polynomial_sum_is, polynomial_product_is, polynomial_product_commutes, polynomial_product_associates, polynomial_product_distributes}
@@ -20,6 +20,7 @@ use Rattle.dz_algebra.proofs.Divisors.{gcd_is}
 use Rattle.dz_algebra.proofs.Norms.{signed_content_nonzero, scaled_norm}
 use Rattle.dz_algebra.proofs.NormLaws.{norm_is, norm_idempotent, norm_of_scaled}
 use Rattle.dz_algebra.proofs.Operations.{operation_is, operation_canonical, nonzero_gathered, product_left_zero, product_right_zero}
+use Rattle.dz_algebra.proofs.Inside.{in_sum, in_difference, in_polynomial_product, in_polynomial_derivative}
 use Rattle.dz_algebra.proofs.OperationOrder.{same_operation, factors_swap}
 use Rattle.dz_algebra.proofs.DomainValues.{value_is_value, value_of_sum, value_of_difference, value_of_product, value_of_norm, value_of_derivative, nonzero_value}
 
@@ -83,6 +84,14 @@ leader_laws g order = record {
   occurs = λ p v h e. leader_occurs g order p v h e;
   greatest = λ p v e. leader_greatest g order p v e;
   ground = λ p. (ground_no_leader g p, no_leader_ground g p);
+}
+
+pub symbol_laws : {S : Type 0} (cmp : S → S → Ordering) (test : S → Bool) → SymbolLaws cmp test
+symbol_laws cmp test = record {
+  of_sum = λ p q h g. in_sum cmp (λ s. IsTrue (test s)) p q h g;
+  of_difference = λ p q h g. in_difference cmp (λ s. IsTrue (test s)) p q h g;
+  of_product = λ p q h g. in_polynomial_product cmp (λ s. IsTrue (test s)) p q h g;
+  of_derivative = λ rate keeps p h. in_polynomial_derivative cmp (λ s. IsTrue (test s)) rate keeps p h;
 }
 
 pub norm_laws : {S : Type 0} (cmp : S → S → Ordering) → NormLaws cmp

@@ -25,3 +25,4 @@ pub mod Leaders
 pub mod Coefficients
 pub mod SameAmounts
 pub mod OperationOrder
+pub mod Inside

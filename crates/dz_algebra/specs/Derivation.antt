@@ -1,5 +1,5 @@
 -- Derivations (Kolchin): by Leibniz over each term and each symbol of it.
-use Rattle.std.specs.Prelude.{◌≡◌, ℕ, zero, suc, [], ◌∷◌, ◌++◌, ℤ, pos, ◌*ℤ◌}
+use Rattle.std.specs.Prelude.{⊤, ◌≡◌, ℕ, zero, suc, [], ◌∷◌, ◌++◌, ℤ, pos, ◌*ℤ◌}
 use Rattle.std.specs.declared.cmp.Ordering.{Ordering}
 use Rattle.std.specs.Ordering.{match_ordering}
 use Rattle.dz_algebra.specs.Monomial.{Monomial, with_power, monomial_cmp}
@@ -16,6 +16,12 @@ abbrev pub rate_polynomial : {S : Type 0} → Rate S → Polynomial S
 rate_polynomial constant = []
 rate_polynomial unit = polynomial_one
 rate_polynomial (symbol t) = symbol_polynomial t
+
+-- the symbol that a derivation makes, if it makes one, has a property
+abbrev pub RateIn : {S : Type 0} → (S → Type 0) → Rate S → Type 0
+RateIn P constant = ⊤
+RateIn P unit = ⊤
+RateIn P (symbol t) = P t
 
 -- the partial derivative by v: v itself goes to one, every other symbol to zero
 abbrev pub rate_by : {S : Type 0} → (S → S → Ordering) → S → S → Rate S

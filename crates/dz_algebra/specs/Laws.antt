@@ -7,7 +7,7 @@ use Rattle.std.specs.Ordering.{match_ordering}
 use Rattle.dz_algebra.specs.Domain.{Operations}
 use Rattle.dz_algebra.specs.Monomial.{Monomial, IsMonomial, monomial_cmp, exponent, without}
 use Rattle.dz_algebra.specs.Polynomial.{Polynomial, Contributions, IsPolynomial, AreMonomials, PolynomialIn, coefficient_at, collect, pairs, scaled, symbol_polynomial, polynomial_one, polynomial_sum, polynomial_difference, polynomial_negative, polynomial_product}
-use Rattle.dz_algebra.specs.Derivation.{Rate, RatesCommute, rate_polynomial, polynomial_derivative}
+use Rattle.dz_algebra.specs.Derivation.{Rate, RateIn, RatesCommute, rate_polynomial, polynomial_derivative}
 use Rattle.dz_algebra.specs.Symbols.{Symbols}
 use Rattle.dz_algebra.specs.Parts.{degree, coefficient_of, initial, is_ground, leader}
 use Rattle.dz_algebra.specs.Norm.{gcd, signed_content, norm}
@@ -87,6 +87,18 @@ pub record LeaderLaws {S : Type 0} (g : Symbols S) : Type 0 where
   pub greatest : (p : Polynomial S) (v : S) → leader g p ≡ Some v
       → PolynomialIn (λ s. IsTrue (g.is_derivative s) → g.cmp s v ≢ Greater) p
   pub ground : (p : Polynomial S) → IsTrue (is_ground g p) ↔ (leader g p ≡ None)
+
+-- the operations bring in no symbols: those of a result pass a test, if those of the operands do
+pub record SymbolLaws {S : Type 0} (cmp : S → S → Ordering) (test : S → Bool) : Type 0 where
+  pub of_sum : (p q : Polynomial S) → PolynomialIn (λ s. IsTrue (test s)) p → PolynomialIn (λ s. IsTrue (test s)) q
+      → PolynomialIn (λ s. IsTrue (test s)) (polynomial_sum cmp p q)
+  pub of_difference : (p q : Polynomial S) → PolynomialIn (λ s. IsTrue (test s)) p → PolynomialIn (λ s. IsTrue (test s)) q
+      → PolynomialIn (λ s. IsTrue (test s)) (polynomial_difference cmp p q)
+  pub of_product : (p q : Polynomial S) → PolynomialIn (λ s. IsTrue (test s)) p → PolynomialIn (λ s. IsTrue (test s)) q
+      → PolynomialIn (λ s. IsTrue (test s)) (polynomial_product cmp p q)
+  pub of_derivative : (rate : S → Rate S) → ((s : S) → IsTrue (test s) → RateIn (λ s. IsTrue (test s)) (rate s))
+      → (p : Polynomial S) → PolynomialIn (λ s. IsTrue (test s)) p
+      → PolynomialIn (λ s. IsTrue (test s)) (polynomial_derivative cmp rate p)
 
 -- the norm of a polynomial that is not zero is its one multiple by a rational number whose coefficients have no common
 -- divisor and whose first coefficient is positive

@@ -19,6 +19,7 @@ ghost use Rattle.dz_algebra.specs.Laws.{
   DerivationsCommute,
   PowerLaws,
   LeaderLaws,
+  SymbolLaws,
   NormLaws,
   OperationLaws,
   ValueLaws,
@@ -66,6 +67,12 @@ pub fn coefficients_of_powers<S>()
 #[tactic(auto, using(crate::proofs::LawProofs::leader_laws))]
 pub fn leader_is_greatest<S>()
     ensures { (g : Symbols S) → IsOrder g.cmp → LeaderLaws g }
+{}
+
+/// The operations bring in no symbols.
+#[tactic(auto, using(crate::proofs::LawProofs::symbol_laws))]
+pub fn operations_keep_symbols<S>()
+    ensures { (cmp : S → S → Ordering) (test : S → Bool) → SymbolLaws cmp test }
 {}
 
 /// The norm of a polynomial is one of its multiples, and the same for all of them.
