@@ -6,6 +6,7 @@ use Rattle.dz_algebra.specs.Norm.{norm, gcd}
 use Rattle.dz_algebra.specs.Size.{support, fits, refusal, operation}
 use Rattle.dz_algebra.specs.Examples.{DerivationExamples, OperationExamples}
 
+-- derivatives, parts and norms
 pub derivation_examples : DerivationExamples
 unfolding polynomial_derivative norm gcd
 derivation_examples = record {
@@ -18,6 +19,7 @@ derivation_examples = record {
   norm_of_line = refl;
 }
 
+-- contributions, supports and answers
 pub operation_examples : OperationExamples
 unfolding polynomial_sum polynomial_difference polynomial_product support fits refusal operation
 operation_examples = record {

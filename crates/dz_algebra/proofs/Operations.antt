@@ -78,6 +78,7 @@ module _ {S : Type 0} {cmp : S → S → Ordering} (order : IsOrder cmp) where
   above_amounts m [] a = tt
   above_amounts m (t ∷ p) a = (a.0, above_amounts m p a.1)
 
+  -- the amounts of a polynomial fall
   pub falling_amounts : (p : Polynomial S) → IsPolynomial cmp p → IsFalling by (amounts p)
   falling_amounts [] h = tt
   falling_amounts (t ∷ p) h = (above_amounts t.0 p h.2, falling_amounts p h.3)
@@ -90,10 +91,12 @@ module _ {S : Type 0} {cmp : S → S → Ordering} (order : IsOrder cmp) where
   pub falling_gathered : (ts : Contributions S) → IsFalling by (gathered cmp ts)
   falling_gathered ts = falling_onto monomial_order add_amounts (amounts ts) [] tt
 
+  -- contributions are put one after the other
   pub onto-append : (rs ss ts : List (Monomial S × Amount)) → onto by add_amounts (rs ++ ss) ts ≡ onto by add_amounts rs (onto by add_amounts ss ts)
   onto-append [] ss ts = refl
   onto-append (r ∷ rs) ss ts = ap (put by add_amounts r.0 r.1) (onto-append rs ss ts)
 
+  -- the amounts of two lists of contributions
   pub amounts-append : (p q : Contributions S) → amounts (p ++ q) ≡ amounts p ++ amounts q
   amounts-append [] q = refl
   amounts-append (t ∷ p) q = ap (λ l. (t.0, amount t.1) ∷ l) (amounts-append p q)
@@ -125,5 +128,6 @@ pairs_zero cmp (t ∷ p) = pairs_zero cmp p
 pub product_left_zero : {S : Type 0} (g : Symbols S) (p : Polynomial S) → operation g (pairs g.cmp [] p) ≡ Ok []
 product_left_zero g p = operation_nothing g
 
+-- from either side
 pub product_right_zero : {S : Type 0} (g : Symbols S) (p : Polynomial S) → operation g (pairs g.cmp p []) ≡ Ok []
 product_right_zero g p = ap (operation g) (pairs_zero g.cmp p) ∙ operation_nothing g

@@ -10,6 +10,7 @@ use Rattle.dz_algebra.proofs.Orders.{greater_reversed, greater_trans}
 use Rattle.dz_algebra.proofs.Gathers.{falling_onto}
 
 module _ {V : Type 0} (add : V → V → V) (associates : (a b c : V) → add (add a b) c ≡ add a (add b c)) where
+  -- joining associates
   pub joined_associates : (x y z : Option V) → joined add (joined add x y) z ≡ joined add x (joined add y z)
   joined_associates None y z = refl
   joined_associates (Some a) None z = refl
@@ -20,6 +21,7 @@ module _ {V : Type 0} (add : V → V → V) (associates : (a b c : V) → add (a
   joined_none None = refl
   joined_none (Some a) = refl
 
+  -- what two lists land at a key joins
   pub landed-append : {K : Type 0} (cmp : K → K → Ordering) (k : K) (rs ss : List (K × V)) → landed cmp add k (rs ++ ss) ≡ joined add (landed cmp add k rs) (landed cmp add k ss)
   landed-append cmp k [] ss = refl
   landed-append cmp k (r ∷ rs) ss = ap (joined add (match_ordering (cmp k r.0) None (Some r.1) None)) (landed-append cmp k rs ss) ∙ sym (joined_associates (match_ordering (cmp k r.0) None (Some r.1) None) (landed cmp add k rs) (landed cmp add k ss))
@@ -51,10 +53,12 @@ module _ {V : Type 0} (add : V → V → V) (associates : (a b c : V) → add (a
         together Equal w None = refl
         together Equal w (Some y) = ap Some (associates v w y)
 
+    -- putting lands what the contributions land
     pub landed_onto : (k : K) (rs ts : List (K × V)) → landed cmp add k (onto cmp add rs ts) ≡ landed cmp add k (rs ++ ts)
     landed_onto k [] ts = refl
     landed_onto k (r ∷ rs) ts = landed_put k r.0 r.1 (onto cmp add rs ts) ∙ ap (joined add (match_ordering (cmp k r.0) None (Some r.1) None)) (landed_onto k rs ts)
 
+    -- and so does gathering
     pub landed_gather : (k : K) (rs : List (K × V)) → landed cmp add k (gather cmp add rs) ≡ landed cmp add k rs
     landed_gather k rs = landed_onto k rs [] ∙ landed-append cmp k rs [] ∙ joined_none (landed cmp add k rs)
 
@@ -70,6 +74,7 @@ module _ {V : Type 0} (add : V → V → V) (associates : (a b c : V) → add (a
     head_lands : (t : K × V) (ts : List (K × V)) → IsAbove cmp t.0 ts → landed cmp add t.0 (t ∷ ts) ≡ Some t.1
     head_lands t ts a = ap₂ (λ o x. joined add (match_ordering o None (Some t.1) None) x) (tied_itself order.total t.0) (above_lands t.0 ts a)
 
+    -- falling lists that land alike are equal
     pub same_falling : (ts us : List (K × V)) → IsFalling cmp ts → IsFalling cmp us → ((k : K) → landed cmp add k ts ≡ landed cmp add k us) → ts ≡ us
     same_falling [] [] f g e = refl
     same_falling [] (u ∷ us) f g e = let h = e u.0 ∙ head_lands u us g.0 in absurd (nothing u.1 h)

@@ -23,10 +23,12 @@ letter_cmp (independent i) (derivative k l) = Less
 letter_cmp (derivative i j) (independent k) = Greater
 letter_cmp (derivative i j) (derivative k l) = ordering_then (nat_cmp (i + j) (k + l)) (nat_cmp i k)
 
+-- u and its derivatives
 abbrev pub letter_is_derivative : Letter → Bool
 letter_is_derivative (independent j) = false
 letter_is_derivative (derivative i j) = true
 
+-- how often u is derived
 abbrev pub letter_order : Letter → ℕ
 letter_order (independent j) = 0
 letter_order (derivative i j) = i + j
@@ -37,24 +39,31 @@ letter_rate i (independent j) = cond (i == j) unit constant
 letter_rate zero (derivative i j) = symbol (derivative (suc i) j)
 letter_rate (suc n) (derivative i j) = symbol (derivative i (suc j))
 
+-- these symbols
 abbrev pub letters : Symbols Letter
 letters = record { cmp = letter_cmp; is_derivative = letter_is_derivative; total_order = letter_order; rate = letter_rate }
 
+-- the first independent
 abbrev pub x : Letter
 x = independent 0
 
+-- the dependent
 abbrev pub u : Letter
 u = derivative 0 0
 
+-- u derived by x
 abbrev pub u_x : Letter
 u_x = derivative 1 0
 
+-- u derived by y
 abbrev pub u_y : Letter
 u_y = derivative 0 1
 
+-- u derived twice by x
 abbrev pub u_xx : Letter
 u_xx = derivative 2 0
 
+-- a negative coefficient
 abbrev pub minus : ℕ → ℤ
 minus n = neg_ℤ (pos n)
 

@@ -1,11 +1,12 @@
 -- The laws of the definitions, each stated once; the crate's law functions ask for their proofs.
-use Rattle.std.specs.Prelude.{◌≡◌, ◌≢◌, ◌↔◌, ◌<◌, Some, None, ℕ, [], ℤ, pos, Bool, IsTrue, Ok}
+use Rattle.std.specs.Prelude.{◌≡◌, ◌≢◌, ◌↔◌, ◌<◌, ◌+◌, Some, None, ℕ, [], ℤ, pos, Bool, IsTrue, Ok}
 use Rattle.std.specs.Int.{IsGcd}
 use Rattle.std.specs.declared.cmp.Ordering.{Ordering}
 use Rattle.std.specs.declared.cmp.Ordering.TheVariants.{Greater}
 use Rattle.std.specs.Ordering.{match_ordering}
 use Rattle.dz_algebra.specs.Domain.{Operations}
-use Rattle.dz_algebra.specs.Monomial.{Monomial, IsMonomial, monomial_cmp, exponent, without}
+use Rattle.dz_algebra.specs.Order.{IsOrder}
+use Rattle.dz_algebra.specs.Monomial.{Monomial, IsMonomial, monomial_cmp, exponent, without, IsLarger, monomial_product}
 use Rattle.dz_algebra.specs.Polynomial.{Polynomial, Contributions, IsPolynomial, AreMonomials, PolynomialIn, coefficient_at, collect, pairs, scaled, symbol_polynomial, polynomial_one, polynomial_sum, polynomial_difference, polynomial_negative, polynomial_product}
 use Rattle.dz_algebra.specs.Derivation.{Rate, RateIn, RatesCommute, rate_polynomial, polynomial_derivative}
 use Rattle.dz_algebra.specs.Symbols.{Symbols}
@@ -15,6 +16,18 @@ use Rattle.dz_algebra.specs.Amount.{amounts, add_amounts, gathered, nonzero}
 use Rattle.dz_algebra.specs.Gather.{landed}
 use Rattle.dz_algebra.specs.Size.{operation}
 use Rattle.dz_algebra.specs.Value.{value, whole_in, rate_value}
+
+-- the order of monomials is a total order in which only equal monomials tie; the greater has the larger exponent at the
+-- greatest symbol at which they differ; and multiplying keeps it
+pub record MonomialLaws {S : Type 0} (cmp : S → S → Ordering) : Type 0 where
+  pub order : IsOrder (monomial_cmp cmp)
+  pub greater : (m n : Monomial S) → IsMonomial cmp m → IsMonomial cmp n → monomial_cmp cmp m n ≡ Greater
+      → (s : S) × IsLarger cmp m n s
+  pub product_is : (m n : Monomial S) → IsMonomial cmp m → IsMonomial cmp n → IsMonomial cmp (monomial_product cmp m n)
+  pub exponents_add : (s : S) (m n : Monomial S)
+      → exponent cmp s (monomial_product cmp m n) ≡ exponent cmp s m + exponent cmp s n
+  pub product_keeps : (k m n : Monomial S) → IsMonomial cmp k → IsMonomial cmp m → IsMonomial cmp n
+      → monomial_cmp cmp (monomial_product cmp k m) (monomial_product cmp k n) ≡ monomial_cmp cmp m n
 
 -- a polynomial is the finite map of its coefficients, and contributions make the one of their sums
 pub record CoefficientLaws {S : Type 0} (cmp : S → S → Ordering) : Type 0 where
@@ -141,7 +154,7 @@ pub record ValueLaws {S E : Type 0} (cmp : S → S → Ordering) (o : Operations
       → value o.arithmetic at (polynomial_derivative cmp rate p) ≡ o.derivative i (value o.arithmetic at p)
 
 -- each symbol that passes a test has a derivation that takes its value to one, and those of the others to zero
-pub record AreIndependent {S E : Type 0} (cmp : S → S → Ordering) (o : Operations E) (at : S → E) (test : S
+pub record HaveDualDerivations {S E : Type 0} (cmp : S → S → Ordering) (o : Operations E) (at : S → E) (test : S
     → Bool) (place : S → ℕ) : Type 0 where
   pub below : (s : S) → IsTrue (test s) → place s < o.derivations
   pub rates : (s t : S) → IsTrue (test s) → IsTrue (test t) → o.derivative (place s) (at t)

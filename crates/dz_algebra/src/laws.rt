@@ -12,6 +12,7 @@ ghost use Rattle.dz_algebra.specs.Symbols.{Symbols};
 ghost use Rattle.dz_algebra.specs.Value.{value};
 ghost use Rattle.dz_algebra.specs.Examples.{DerivationExamples, OperationExamples};
 ghost use Rattle.dz_algebra.specs.Laws.{
+  MonomialLaws,
   CoefficientLaws,
   ClosureLaws,
   RingLaws,
@@ -23,8 +24,15 @@ ghost use Rattle.dz_algebra.specs.Laws.{
   NormLaws,
   OperationLaws,
   ValueLaws,
-  AreIndependent,
+  HaveDualDerivations,
 };
+
+/// The order of monomials is total, looks at the greatest symbol at which two monomials differ, and
+/// is kept by multiplying.
+#[tactic(auto, using(crate::proofs::LawProofs::monomial_laws))]
+pub fn monomials_are_ordered<S>()
+    ensures { (cmp : S → S → Ordering) → IsOrder cmp → MonomialLaws cmp }
+{}
 
 /// A polynomial is the finite map of its coefficients, and contributions make the polynomial
 /// whose coefficients are their sums.
@@ -111,7 +119,7 @@ pub fn values_keep_operations<S, E>()
 pub fn nonzero_never_vanishes<S, E>()
     ensures { (cmp : S → S → Ordering) → IsOrder cmp → (o : Operations E) → DomainLaws o
         → (at : S → E) → ((s : S) → IsTrue (o.is_value (at s)))
-        → (test : S → Bool) (place : S → ℕ) → AreIndependent cmp o at test place
+        → (test : S → Bool) (place : S → ℕ) → HaveDualDerivations cmp o at test place
         → (p : Polynomial S) → IsPolynomial cmp p → PolynomialIn (λ s. IsTrue (test s)) p
         → p ≢ []
         → value o.arithmetic at p ≢ o.zero }
