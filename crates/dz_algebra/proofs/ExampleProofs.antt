@@ -13,9 +13,7 @@ derivation_examples = record {
   conic_by_x = refl;
   mixed_by_x = refl;
   mixed_by_y = refl;
-  leader_of_conic = refl;
-  initial_of_conic = refl;
-  separant_of_conic = refl;
+  parts_of_conic = (refl, refl, refl);
   norm_of_line = refl;
 }
 
@@ -28,4 +26,6 @@ operation_examples = record {
   steep_is_large = (refl, refl);
   sum_is_wide = (refl, refl);
   large_first = refl;
+  order_limit = (refl, refl);
+  exponent_limit = refl;
 }

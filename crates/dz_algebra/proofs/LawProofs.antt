@@ -20,8 +20,8 @@ use Rattle.dz_algebra.proofs.Coefficients.{coefficient_of_is, coefficient_there,
 use Rattle.dz_algebra.proofs.Leaders.{leader_greatest, leader_occurs, ground_no_leader, no_leader_ground}
 use Rattle.dz_algebra.proofs.Divisors.{gcd_is}
 use Rattle.dz_algebra.proofs.Norms.{signed_content_nonzero, scaled_norm}
-use Rattle.dz_algebra.proofs.NormLaws.{norm_is, norm_idempotent, norm_of_scaled}
-use Rattle.dz_algebra.proofs.Operations.{monomial_order, operation_is, operation_canonical, nonzero_gathered, product_left_zero, product_right_zero}
+use Rattle.dz_algebra.proofs.NormLaws.{norm_content, norm_is, norm_idempotent, norm_of_scaled}
+use Rattle.dz_algebra.proofs.Operations.{operation_ok, operation_large, operation_wide, monomial_order, operation_is, operation_canonical, nonzero_gathered, product_left_zero, product_right_zero}
 use Rattle.dz_algebra.proofs.Inside.{in_sum, in_difference, in_polynomial_product, in_polynomial_derivative}
 use Rattle.dz_algebra.proofs.OperationOrder.{same_operation, factors_swap}
 use Rattle.dz_algebra.proofs.DomainValues.{value_is_value, value_of_sum, value_of_difference, value_of_product, value_of_norm, value_of_derivative, nonzero_value}
@@ -121,6 +121,7 @@ norm_laws cmp = record {
   divisor = gcd_is;
   norm_is = λ p h. norm_is cmp p h;
   multiple = λ p h. (signed_content_nonzero cmp p h, sym (scaled_norm p));
+  normal = λ p h n. norm_content cmp p h n;
   idempotent = λ p h. norm_idempotent cmp p h;
   of_multiple = λ k p n h. norm_of_scaled cmp k n p h;
 }
@@ -128,6 +129,9 @@ norm_laws cmp = record {
 -- answers of operations
 pub operation_laws : {S : Type 0} (g : Symbols S) → IsOrder g.cmp → OperationLaws g
 operation_laws g order = record {
+  ok = λ ts h f. operation_ok g ts h f;
+  is_large = λ ts l. operation_large g ts l;
+  is_wide = λ ts. operation_wide g ts;
   answer = λ ts p e. operation_is g ts p e;
   canonical = λ ts p h e. operation_canonical g order ts h p e;
   amounts_make = λ ts. nonzero_gathered order ts;

@@ -183,3 +183,11 @@ module _ {S : Type 0} (cmp : S → S → Ordering) where
       let l = signed_content (t ∷ p) in
       ap (λ q. norm (scaled k q)) (sym (scaled_norm (t ∷ p))) ∙ ap norm (scaled_again k l (norm (t ∷ p)))
       ∙ norm_of_multiple (t.0, int_div t.1 l) (divided l p) (norm_normal cmp t p a) (k *ℤ l) (still_nonzero cmp k l h (signed_content_nonzero cmp (t ∷ p) a))
+
+  -- the norm has no common divisor, and its first coefficient is positive
+  pub norm_content : (p : Polynomial S) → IsPolynomial cmp p → p ≢ [] → signed_content (norm p) ≡ pos 1
+  unfolding norm
+  norm_content [] h n = absurd (n refl)
+  norm_content (t ∷ p) h n =
+      let q = norm_normal cmp t p h in
+      ap₂ (λ b g. cond b (neg_ℤ (pos g)) (pos g)) q.positive q.primitive

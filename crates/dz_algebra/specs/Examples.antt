@@ -1,5 +1,5 @@
 -- Worked examples, computed by hand: independents x and y, and one dependent u.
-use Rattle.std.specs.Prelude.{◌≡◌, ℕ, zero, suc, ◌+◌, ◌-◌, ◌^◌, ◌==◌, Bool, true, false, cond, [], ◌∷◌, ℤ, pos, neg_ℤ, Some, Err}
+use Rattle.std.specs.Prelude.{◌≡◌, ℕ, zero, suc, ◌+◌, ◌-◌, ◌^◌, ◌==◌, Bool, true, false, cond, [], ◌∷◌, ℤ, pos, neg_ℤ, Some, Ok, Err}
 use Rattle.std.specs.declared.cmp.Ordering.{Ordering}
 use Rattle.std.specs.declared.cmp.Ordering.TheVariants.{Less, Greater}
 use Rattle.std.specs.Ordering.{nat_cmp, ordering_then}
@@ -91,6 +91,10 @@ line = ((u, 1) ∷ [], minus 6) ∷ ([], pos 4) ∷ []
 abbrev pub times_u : ℤ → Polynomial Letter
 times_u c = ((u, 1) ∷ [], c) ∷ []
 
+-- a power of one symbol
+abbrev pub one_power : Letter → ℕ → Polynomial Letter
+one_power s e = ((s, e) ∷ [], pos 1) ∷ []
+
 -- the greatest coefficient, 2^127 - 1
 abbrev pub most : ℕ
 most = 2 ^ 127 - 1
@@ -109,9 +113,9 @@ pub record DerivationExamples : Type 0 where
       ≡ ((u_x, 1) ∷ (x, 1) ∷ [], pos 1) ∷ ((u, 1) ∷ [], pos 1) ∷ []
   pub mixed_by_y : polynomial_derivative letter_cmp (letter_rate 1) mixed ≡ ((u_y, 1) ∷ (x, 1) ∷ [], pos 1) ∷ []
   -- u[x]^2 - 4*u has the leader u[x], the initial 1 and the separant 2*u[x]
-  pub leader_of_conic : leader letters conic ≡ Some u_x
-  pub initial_of_conic : initial letter_cmp u_x conic ≡ ([], pos 1) ∷ []
-  pub separant_of_conic : separant letter_cmp u_x conic ≡ ((u_x, 1) ∷ [], pos 2) ∷ []
+  pub parts_of_conic : (leader letters conic ≡ Some u_x)
+      × (initial letter_cmp u_x conic ≡ ([], pos 1) ∷ [])
+      × (separant letter_cmp u_x conic ≡ ((u_x, 1) ∷ [], pos 2) ∷ [])
   -- the norm of -6*u + 4 is 3*u - 2
   pub norm_of_line : norm line ≡ ((u, 1) ∷ [], pos 3) ∷ ([], minus 2) ∷ []
 
@@ -132,3 +136,7 @@ pub record OperationExamples : Type 0 where
       × (sum_answer letters (times_u (pos most)) (times_u (minus 1)) ≡ Err wide)
   -- what is both large and wide is told as large
   pub large_first : sum_answer letters steep (times_u (pos most)) ≡ Err (large limits.Exponent)
+  -- 60 is the greatest total order, and 65,535 the greatest exponent; of two limits the first is told
+  pub order_limit : (sum_answer letters (one_power (derivative 60 0) 65535) [] ≡ Ok (one_power (derivative 60 0) 65535))
+      × (sum_answer letters (one_power (derivative 60 1) 65536) [] ≡ Err (large limits.Order))
+  pub exponent_limit : sum_answer letters (one_power u 65536) [] ≡ Err (large limits.Exponent)

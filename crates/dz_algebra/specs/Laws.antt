@@ -1,5 +1,5 @@
 -- The laws of the definitions, each stated once; the crate's law functions ask for their proofs.
-use Rattle.std.specs.Prelude.{◌≡◌, ◌≢◌, ◌↔◌, ◌<◌, ◌+◌, Some, None, ℕ, [], ℤ, pos, Bool, IsTrue, Ok}
+use Rattle.std.specs.Prelude.{◌≡◌, ◌≢◌, ◌↔◌, ◌<◌, ◌+◌, Some, None, ℕ, [], ℤ, pos, Bool, false, Err, IsTrue, Ok}
 use Rattle.std.specs.Int.{IsGcd}
 use Rattle.std.specs.declared.cmp.Ordering.{Ordering}
 use Rattle.std.specs.declared.cmp.Ordering.TheVariants.{Greater}
@@ -14,7 +14,8 @@ use Rattle.dz_algebra.specs.Parts.{degree, coefficient_of, initial, is_ground, l
 use Rattle.dz_algebra.specs.Norm.{gcd, signed_content, norm}
 use Rattle.dz_algebra.specs.Amount.{amounts, add_amounts, gathered, nonzero}
 use Rattle.dz_algebra.specs.Gather.{landed}
-use Rattle.dz_algebra.specs.Size.{operation}
+use Rattle.dz_algebra.specs.Size.{IsSmall, limit_of, support, fits, wide, large, operation}
+use Rattle.dz_algebra.specs.declared.Limit.{Limit}
 use Rattle.dz_algebra.specs.Value.{value, whole_in, rate_value}
 
 -- the order of monomials is a total order in which only equal monomials tie; the greater has the larger exponent at the
@@ -120,12 +121,18 @@ pub record NormLaws {S : Type 0} (cmp : S → S → Ordering) : Type 0 where
   pub norm_is : (p : Polynomial S) → IsPolynomial cmp p → IsPolynomial cmp (norm p)
   pub multiple : (p : Polynomial S) → IsPolynomial cmp p
       → (signed_content p ≢ pos 0) × (p ≡ scaled (signed_content p) (norm p))
+  pub normal : (p : Polynomial S) → IsPolynomial cmp p → p ≢ [] → signed_content (norm p) ≡ pos 1
   pub idempotent : (p : Polynomial S) → IsPolynomial cmp p → norm (norm p) ≡ norm p
   pub of_multiple : (k : ℤ) (p : Polynomial S) → k ≢ pos 0 → IsPolynomial cmp p → norm (scaled k p) ≡ norm p
 
--- what an operation answers: where it is not refused, the polynomial that its contributions make; it depends only on what
--- lands at each monomial, so on no order of adding; a product with zero is never refused
+-- what an operation answers: large with the limit exactly where it is not small, wide exactly where it is small and does not
+-- fit, and otherwise the polynomial that its contributions make; it depends only on what lands at each monomial, so on no
+-- order of adding; a product with zero is never refused
 pub record OperationLaws {S : Type 0} (g : Symbols S) : Type 0 where
+  pub ok : (ts : Contributions S) → IsSmall g ts → IsTrue (fits g.cmp ts)
+      → operation g ts ≡ Ok (collect (monomial_cmp g.cmp) ts)
+  pub is_large : (ts : Contributions S) (l : Limit) → (operation g ts ≡ Err (large l)) ↔ (limit_of g (support g.cmp ts) ≡ Some l)
+  pub is_wide : (ts : Contributions S) → (operation g ts ≡ Err wide) ↔ (IsSmall g ts × (fits g.cmp ts ≡ false))
   pub answer : (ts : Contributions S) (p : Polynomial S) → operation g ts ≡ Ok p → collect (monomial_cmp g.cmp) ts ≡ p
   pub canonical : (ts : Contributions S) (p : Polynomial S) → AreMonomials g.cmp ts → operation g ts ≡ Ok p
       → IsPolynomial g.cmp p
