@@ -52,8 +52,8 @@ pub record DomainLaws {E : Type 0} (o : Operations E) : Type 0 where
   pub one_is_not_zero : o.one ≢ o.zero
   pub no_zero_divisors : (a b : E) → IsTrue (o.is_value a) → IsTrue (o.is_value b) → o.product a b ≡ o.zero
       → (a ≡ o.zero) ⊎ (b ≡ o.zero)
-  pub characteristic_is_zero : (m : ℕ) (a : E) → IsTrue (o.is_value a) → copies o.arithmetic (suc m) a ≡ o.zero → a
-      ≡ o.zero
+  pub characteristic_is_zero : (m : ℕ) (a : E) → IsTrue (o.is_value a) → copies o.arithmetic (suc m) a ≡ o.zero
+      → a ≡ o.zero
   -- the derivations are additive, obey Leibniz' rule and commute
   pub derivative_of_sum : (i : ℕ) (a b : E) → i < o.derivations → IsTrue (o.is_value a) → IsTrue (o.is_value b)
       → o.derivative i (o.sum a b) ≡ o.sum (o.derivative i a) (o.derivative i b)

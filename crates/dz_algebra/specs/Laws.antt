@@ -51,17 +51,17 @@ pub record ClosureLaws {S : Type 0} (cmp : S → S → Ordering) : Type 0 where
 
 -- polynomials are a commutative ring
 pub record RingLaws {S : Type 0} (cmp : S → S → Ordering) : Type 0 where
-  pub sum_commutes : (p q : Polynomial S) → IsPolynomial cmp p → IsPolynomial cmp q → polynomial_sum cmp p q
-      ≡ polynomial_sum cmp q p
+  pub sum_commutes : (p q : Polynomial S) → IsPolynomial cmp p → IsPolynomial cmp q
+      → polynomial_sum cmp p q ≡ polynomial_sum cmp q p
   pub sum_associates : (p q s : Polynomial S) → IsPolynomial cmp p → IsPolynomial cmp q → IsPolynomial cmp s
       → polynomial_sum cmp (polynomial_sum cmp p q) s ≡ polynomial_sum cmp p (polynomial_sum cmp q s)
   pub zero_is_neutral : (p : Polynomial S) → IsPolynomial cmp p → polynomial_sum cmp [] p ≡ p
-  pub negative_is_inverse : (p : Polynomial S) → IsPolynomial cmp p → polynomial_sum cmp (polynomial_negative p) p
-      ≡ []
-  pub difference_is : (p q : Polynomial S) → polynomial_difference cmp p q
-      ≡ polynomial_sum cmp p (polynomial_negative q)
-  pub product_commutes : (p q : Polynomial S) → IsPolynomial cmp p → IsPolynomial cmp q → polynomial_product cmp p q
-      ≡ polynomial_product cmp q p
+  pub negative_is_inverse : (p : Polynomial S) → IsPolynomial cmp p
+      → polynomial_sum cmp (polynomial_negative p) p ≡ []
+  pub difference_is : (p q : Polynomial S)
+      → polynomial_difference cmp p q ≡ polynomial_sum cmp p (polynomial_negative q)
+  pub product_commutes : (p q : Polynomial S) → IsPolynomial cmp p → IsPolynomial cmp q
+      → polynomial_product cmp p q ≡ polynomial_product cmp q p
   pub product_associates : (p q s : Polynomial S) → IsPolynomial cmp p → IsPolynomial cmp q → IsPolynomial cmp s
       → polynomial_product cmp (polynomial_product cmp p q) s ≡ polynomial_product cmp p (polynomial_product cmp q s)
   pub one_is_neutral : (p : Polynomial S) → IsPolynomial cmp p → polynomial_product cmp polynomial_one p ≡ p
@@ -77,14 +77,16 @@ pub record DerivationLaws {S : Type 0} (cmp : S → S → Ordering) (rate : S �
       ≡ polynomial_sum cmp (polynomial_derivative cmp rate p) (polynomial_derivative cmp rate q)
   pub of_product : (p q : Polynomial S) → IsPolynomial cmp p → IsPolynomial cmp q
       → polynomial_derivative cmp rate (polynomial_product cmp p q)
-      ≡ polynomial_sum cmp (polynomial_product cmp (polynomial_derivative cmp rate p) q) (polynomial_product cmp p (polynomial_derivative cmp rate q))
+      ≡ polynomial_sum cmp (polynomial_product cmp (polynomial_derivative cmp rate p) q)
+      (polynomial_product cmp p (polynomial_derivative cmp rate q))
   pub of_symbol : (s : S) → polynomial_derivative cmp rate (symbol_polynomial s) ≡ rate_polynomial (rate s)
 
 -- two derivations commute, if they do at each symbol
 abbrev pub DerivationsCommute : {S : Type 0} → (S → S → Ordering) → Type 0
 DerivationsCommute {S} cmp =
     (first second : S → Rate S) → RatesCommute first second → (p : Polynomial S) → IsPolynomial cmp p
-    → polynomial_derivative cmp first (polynomial_derivative cmp second p) ≡ polynomial_derivative cmp second (polynomial_derivative cmp first p)
+    → polynomial_derivative cmp first (polynomial_derivative cmp second p)
+    ≡ polynomial_derivative cmp second (polynomial_derivative cmp first p)
 
 -- the coefficient of a power of s has the coefficients that stand at that power, and the initial is not zero
 pub record PowerLaws {S : Type 0} (cmp : S → S → Ordering) (s : S) : Type 0 where
@@ -138,7 +140,8 @@ pub record OperationLaws {S : Type 0} (g : Symbols S) : Type 0 where
       → IsPolynomial g.cmp p
   pub amounts_make : (ts : Contributions S) → nonzero (gathered g.cmp ts) ≡ collect (monomial_cmp g.cmp) ts
   pub sums_alone : (ts us : Contributions S)
-      → ((n : Monomial S) → landed (monomial_cmp g.cmp) add_amounts n (amounts ts) ≡ landed (monomial_cmp g.cmp) add_amounts n (amounts us))
+      → ((n : Monomial S) → landed (monomial_cmp g.cmp) add_amounts n (amounts ts)
+      ≡ landed (monomial_cmp g.cmp) add_amounts n (amounts us))
       → operation g ts ≡ operation g us
   pub factors_swap : (p q : Polynomial S) → IsPolynomial g.cmp p → IsPolynomial g.cmp q
       → operation g (pairs g.cmp p q) ≡ operation g (pairs g.cmp q p)
@@ -148,21 +151,24 @@ pub record OperationLaws {S : Type 0} (g : Symbols S) : Type 0 where
 -- where the symbols have values in a domain, the value of a polynomial keeps the operations
 pub record ValueLaws {S E : Type 0} (cmp : S → S → Ordering) (o : Operations E) (at : S → E) : Type 0 where
   pub is_value : (p : Polynomial S) → IsTrue (o.is_value (value o.arithmetic at p))
-  pub of_sum : (p q : Polynomial S) → value o.arithmetic at (polynomial_sum cmp p q)
-      ≡ o.sum (value o.arithmetic at p) (value o.arithmetic at q)
-  pub of_difference : (p q : Polynomial S) → value o.arithmetic at (polynomial_difference cmp p q)
+  pub of_sum : (p q : Polynomial S)
+      → value o.arithmetic at (polynomial_sum cmp p q) ≡ o.sum (value o.arithmetic at p) (value o.arithmetic at q)
+  pub of_difference : (p q : Polynomial S)
+      → value o.arithmetic at (polynomial_difference cmp p q)
       ≡ o.sum (value o.arithmetic at p) (o.negative (value o.arithmetic at q))
-  pub of_product : (p q : Polynomial S) → value o.arithmetic at (polynomial_product cmp p q)
+  pub of_product : (p q : Polynomial S)
+      → value o.arithmetic at (polynomial_product cmp p q)
       ≡ o.product (value o.arithmetic at p) (value o.arithmetic at q)
-  pub of_norm : (p : Polynomial S) → value o.arithmetic at p
+  pub of_norm : (p : Polynomial S)
+      → value o.arithmetic at p
       ≡ o.product (whole_in o.arithmetic (signed_content p)) (value o.arithmetic at (norm p))
   pub of_derivative : (i : ℕ) (rate : S → Rate S) → i < o.derivations
       → ((s : S) → o.derivative i (at s) ≡ rate_value o.arithmetic at (rate s)) → (p : Polynomial S)
       → value o.arithmetic at (polynomial_derivative cmp rate p) ≡ o.derivative i (value o.arithmetic at p)
 
 -- each symbol that passes a test has a derivation that takes its value to one, and those of the others to zero
-pub record HaveDualDerivations {S E : Type 0} (cmp : S → S → Ordering) (o : Operations E) (at : S → E) (test : S
-    → Bool) (place : S → ℕ) : Type 0 where
+pub record HaveDualDerivations {S E : Type 0} (cmp : S → S → Ordering) (o : Operations E) (at : S → E)
+    (test : S → Bool) (place : S → ℕ) : Type 0 where
   pub below : (s : S) → IsTrue (test s) → place s < o.derivations
-  pub rates : (s t : S) → IsTrue (test s) → IsTrue (test t) → o.derivative (place s) (at t)
-      ≡ match_ordering (cmp s t) o.zero o.one o.zero
+  pub rates : (s t : S) → IsTrue (test s) → IsTrue (test t)
+      → o.derivative (place s) (at t) ≡ match_ordering (cmp s t) o.zero o.one o.zero

@@ -65,8 +65,8 @@ module _ {R : Type 0} (r : Ring R) where
   product_swaps a b c = sym (r.product_associates a b c) ∙ ap (λ x. r.product x c) (r.product_commutes a b) ∙ r.product_associates b a c
 
   -- four factors change partners
-  pub product_of_products : (a b c d : R) → r.product (r.product a b) (r.product c d)
-      ≡ r.product (r.product a c) (r.product b d)
+  pub product_of_products : (a b c d : R)
+      → r.product (r.product a b) (r.product c d) ≡ r.product (r.product a c) (r.product b d)
   product_of_products a b c d = simp (r.product_associates, r.product_commutes, product_swaps)
 
   -- a sum times an element
