@@ -101,6 +101,7 @@ module _ {S : Type 0} {cmp : S → S → Ordering} (order : IsOrder cmp) where
         | Greater ↦ λ e. keep_is m c (t ∷ p) i (e, above_more m t.0 p e h.2) h
       ] refl
 
+  -- what contributions make is canonical
   pub collect_is : (ts : List (Monomial S × ℤ)) → AreMonomials cmp ts → IsPolynomial cmp (collect by ts)
   collect_is [] h = tt
   collect_is (t ∷ ts) h = add_is t.0 t.1 (collect by ts) h.0 (collect_is ts h.1)
@@ -110,6 +111,7 @@ module _ {S : Type 0} {cmp : S → S → Ordering} (order : IsOrder cmp) where
   head_coefficient t p a =
       ap₂ (λ o x. match_ordering o (pos 0) t.1 (pos 0) +ℤ x) (tied_itself total t.0) (above_collects by (same_monomial order) t.0 p a) ∙ omega (arith, ints)
 
+  -- canonical lists with equal coefficients are equal
   pub same_polynomial : (p q : Polynomial S) → IsPolynomial cmp p → IsPolynomial cmp q → ((n : Monomial S) → coefficient_at by n p ≡ coefficient_at by n q) → p ≡ q
   same_polynomial [] [] a b e = refl
   same_polynomial [] (u ∷ q) a b e = absurd (b.0 (sym (head_coefficient u q b.2) ∙ sym (e u.0)))
@@ -141,18 +143,22 @@ module _ {S : Type 0} {cmp : S → S → Ordering} (order : IsOrder cmp) where
       same_polynomial (collect by ts) (collect by us) (collect_is ts h) (collect_is us g)
       (λ n. coefficient_collect by (same_monomial order) n ts ∙ e n ∙ sym (coefficient_collect by (same_monomial order) n us))
 
+  -- the sums of two lists of contributions add
   pub coefficient-append : (n : Monomial S) (ts us : List (Monomial S × ℤ)) → coefficient_at by n (ts ++ us) ≡ coefficient_at by n ts +ℤ coefficient_at by n us
   coefficient-append n [] us = omega (arith, ints)
   coefficient-append n (t ∷ ts) us = ap (λ x. match_ordering (by n t.0) (pos 0) t.1 (pos 0) +ℤ x) (coefficient-append n ts us) ∙ omega (arith, ints)
 
+  -- the terms of a polynomial stand at monomials
   pub are_monomials : (p : Polynomial S) → IsPolynomial cmp p → AreMonomials cmp p
   are_monomials [] h = tt
   are_monomials (t ∷ p) h = (h.1, are_monomials p h.3)
 
+  -- and so do two lists of contributions together
   pub monomials-append : (ts us : List (Monomial S × ℤ)) → AreMonomials cmp ts → AreMonomials cmp us → AreMonomials cmp (ts ++ us)
   monomials-append [] us h g = g
   monomials-append (t ∷ ts) us h g = (h.0, monomials-append ts us h.1 g)
 
+  -- the sum of polynomials commutes
   pub polynomial_sum_commutes : (p q : Polynomial S) → IsPolynomial cmp p → IsPolynomial cmp q → polynomial_sum cmp p q ≡ polynomial_sum cmp q p
   unfolding polynomial_sum
   polynomial_sum_commutes p q h g =

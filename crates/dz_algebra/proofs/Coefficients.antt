@@ -35,6 +35,7 @@ module _ {S : Type 0} {cmp : S → S → Ordering} (order : IsOrder cmp) (s : S)
         | Greater ↦ λ h. ap (λ o. match_ordering o (exponent cmp s (without cmp s m)) (p.1 + exponent cmp s (without cmp s m)) (exponent cmp s (without cmp s m))) h ∙ exponent_left m
       ] refl
 
+  -- other exponents stay
   pub exponent_other : (t : S) → cmp s t ≢ Equal → (m : Monomial S) → exponent cmp t (without cmp s m) ≡ exponent cmp t m
   exponent_other t n [] = refl
   exponent_other t n (p ∷ m) =
@@ -58,6 +59,7 @@ module _ {S : Type 0} {cmp : S → S → Ordering} (order : IsOrder cmp) (s : S)
         | Greater ↦ (a.0, above_without k m a.1)
       ]
 
+  -- what is left is a monomial
   pub without_is : (m : Monomial S) → IsMonomial cmp m → IsMonomial cmp (without cmp s m)
   without_is [] h = tt
   without_is (p ∷ m) h =
@@ -70,6 +72,7 @@ module _ {S : Type 0} {cmp : S → S → Ordering} (order : IsOrder cmp) (s : S)
   different : (t : S) (o : Ordering) → cmp t s ≡ o → o ≢ Equal → cmp s t ≢ Equal
   different t o h n e = n (sym h ∙ ap (λ x. cmp x s) (sym (order.same s t e)) ∙ tied_itself order.total s)
 
+  -- where s does not occur nothing changes
   pub without_nothing : (m : Monomial S) → IsMonomial cmp m → exponent cmp s m ≡ 0 → without cmp s m ≡ m
   without_nothing m h e = same_exponents order (without cmp s m) m (without_is m h) h (λ t. by_order t (cmp t s) refl)
     where
@@ -78,6 +81,7 @@ module _ {S : Type 0} {cmp : S → S → Ordering} (order : IsOrder cmp) (s : S)
       by_order t Equal f = ap (λ x. exponent cmp x (without cmp s m)) (order.same t s f) ∙ exponent_left m ∙ sym e ∙ ap (λ x. exponent cmp x m) (sym (order.same t s f))
       by_order t Greater f = exponent_other t (different t Greater f (λ e. cc)) m
 
+  -- with its power back the monomial is as before
   pub power_without : (m : Monomial S) → IsMonomial cmp m → 0 < exponent cmp s m → with_power cmp s (exponent cmp s m) (without cmp s m) ≡ m
   power_without m h l = same_exponents order (with_power cmp s (exponent cmp s m) (without cmp s m)) m (with_power_is order s (exponent cmp s m) (without cmp s m) l (without_is m h)) h (λ t. exponent_with_power order t s (exponent cmp s m) (without cmp s m) ∙ by_order t (cmp t s) refl)
     where
@@ -105,6 +109,7 @@ module _ {S : Type 0} {cmp : S → S → Ordering} (order : IsOrder cmp) (s : S)
       by_test true f r = (without_keeps_order m t.0 h g.1 (e ∙ sym (eqb-true (exponent cmp s t.0) k f)) ∙ a.0, r)
       by_test false f r = r
 
+  -- the coefficient of a power is canonical
   pub coefficient_of_is : (k : ℕ) (p : Polynomial S) → IsPolynomial cmp p → IsPolynomial cmp (coefficient_of cmp s k p)
   coefficient_of_is k [] h = tt
   coefficient_of_is k (t ∷ p) h = by_test (exponent cmp s t.0 == k) refl (coefficient_of_is k p h.3)
@@ -143,6 +148,7 @@ module _ {S : Type 0} {cmp : S → S → Ordering} (order : IsOrder cmp) (s : S)
   more_kept : (k : ℕ) (t : Monomial S × ℤ) (p : Polynomial S) → coefficient_of cmp s k p ≢ [] → coefficient_of cmp s k (t ∷ p) ≢ []
   more_kept k t p n = elim (exponent cmp s t.0 == k) as (λ b. cond b ((without cmp s t.0, t.1) ∷ coefficient_of cmp s k p) (coefficient_of cmp s k p) ≢ []) [ true ↦ cons_not_empty _ _ | false ↦ n ]
 
+  -- the initial of a nonzero polynomial is not zero
   pub initial_not_zero : (p : Polynomial S) → p ≢ [] → initial cmp s p ≢ []
   initial_not_zero [] n = absurd (n refl)
   initial_not_zero (t ∷ []) n = first_kept (degree cmp s (t ∷ [])) t [] (omega arith)

@@ -60,6 +60,7 @@ module _ {R : Type 0} (r : Ring R) (d e : R → R) (first : IsDerivation r d) (s
     commute_monomial [] = commute_one
     commute_monomial (p ∷ m) = commute_product (power r.arithmetic (at p.0) p.1) (monomial_value r.arithmetic at m) (commute_power p.0 p.1) (commute_monomial m)
 
+    -- so two derivations commute at the value of every polynomial
     pub commute_value : (ts : Contributions S) → d (e (value r.arithmetic at ts)) ≡ e (d (value r.arithmetic at ts))
     commute_value [] = commute_zero
     commute_value (t ∷ ts) =

@@ -53,10 +53,12 @@ module _ {S : Type 0} {cmp : S → S → Ordering} (order : IsOrder cmp) where
     monomials_derivative [] h = tt
     monomials_derivative (t ∷ p) h = monomials-append order (term_derivative cmp rate t.0 t.1) (derivative_contributions cmp rate p) (term_derivative_is t.0 t.1 h.0) (monomials_derivative p h.1)
 
+    -- the derivative of a polynomial is canonical
     pub polynomial_derivative_is : (p : Polynomial S) → IsPolynomial cmp p → IsPolynomial cmp (polynomial_derivative cmp rate p)
     unfolding polynomial_derivative
     polynomial_derivative_is p h = collect_is order (derivative_contributions cmp rate p) (monomials_derivative p (are_monomials order p h))
 
+    -- the derivation, on canonical polynomials
     abbrev pub differentiated : Canonical order → Canonical order
     differentiated p = (polynomial_derivative cmp rate p.0, polynomial_derivative_is p.0 p.1)
 
@@ -77,6 +79,7 @@ module _ {S : Type 0} {cmp : S → S → Ordering} (order : IsOrder cmp) where
         sym (derivative_value D R (λ x. x.0) (element_keeps R) (λ x. x.1) (λ x y. refl) (λ x y. refl) cmp order.same tangent rate (λ s. refl) p.0)
         ∙ same_canonical order _ _ (generic_value order (derivative_contributions cmp rate p.0) (monomials_derivative p.0 (are_monomials order p.0 p.1)))
 
+    -- the derivative of a sum
     pub additive : (p q : Canonical order) → differentiated (R.sum p q) ≡ R.sum (differentiated p) (differentiated q)
     unfolding polynomial_sum
     additive p q =
@@ -84,6 +87,7 @@ module _ {S : Type 0} {cmp : S → S → Ordering} (order : IsOrder cmp) where
         ∙ ap (λ x. x.1) (collect_value D cmp order.same tangent (monomial_cmp cmp) (same_monomial order) (p.0 ++ q.0) ∙ value-append D cmp order.same tangent p.0 q.0)
         ∙ ap₂ R.sum (slope p) (slope q)
 
+    -- the derivative of a product: Leibniz' rule
     pub leibniz : (p q : Canonical order) → differentiated (R.product p q) ≡ R.sum (R.product (differentiated p) q) (R.product p (differentiated q))
     unfolding polynomial_product
     leibniz p q =
@@ -91,6 +95,7 @@ module _ {S : Type 0} {cmp : S → S → Ordering} (order : IsOrder cmp) where
         ∙ ap (λ x. x.1) (collect_value D cmp order.same tangent (monomial_cmp cmp) (same_monomial order) (pairs cmp p.0 q.0) ∙ pairs_value D cmp order.same tangent p.0 q.0)
         ∙ ap₂ R.sum (ap₂ R.product (slope p) (element q)) (ap₂ R.product (element p) (slope q))
 
+    -- so it is a derivation of the ring of polynomials
     pub is_derivation : IsDerivation (polynomial_ring order) differentiated
     is_derivation = record { additive = additive; leibniz = leibniz }
 

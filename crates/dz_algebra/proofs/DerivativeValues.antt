@@ -13,6 +13,7 @@ use Rattle.dz_algebra.proofs.Values.{plus_minus, moved, whole_in-*ℤ, with_powe
 
 -- a derivation d from one ring into another, in which the elements stand as their images
 module _ {A R : Type 0} (a : Ring A) (r : Ring R) (image : A → R) (keeps : IsHomomorphism a r image) (d : A → R) (additive : (x y : A) → d (a.sum x y) ≡ r.sum (d x) (d y)) (leibniz : (x y : A) → d (a.product x y) ≡ r.sum (r.product (d x) (image y)) (r.product (image x) (d y))) where
+  -- the derivative of zero
   pub derivative_zero : d a.zero ≡ r.zero
   derivative_zero = cancels r (d a.zero) _ _ (sym (additive a.zero a.zero) ∙ ap d (a.zero_is_neutral a.zero) ∙ sym (right_neutral r _))
 
@@ -22,6 +23,7 @@ module _ {A R : Type 0} (a : Ring A) (r : Ring R) (image : A → R) (keeps : IsH
   one_right : (x : R) → r.product x (image a.one) ≡ x
   one_right x = r.product_commutes x (image a.one) ∙ one_left x
 
+  -- the derivative of one
   pub derivative_one : d a.one ≡ r.zero
   derivative_one = cancels r (d a.one) _ _ (sym (ap₂ r.sum (one_right (d a.one)) (one_left (d a.one))) ∙ sym (leibniz a.one a.one) ∙ ap d (a.one_is_neutral a.one) ∙ sym (right_neutral r _))
 
@@ -29,6 +31,7 @@ module _ {A R : Type 0} (a : Ring A) (r : Ring R) (image : A → R) (keeps : IsH
   derivative_copies zero = derivative_zero
   derivative_copies (suc n) = additive _ _ ∙ ap₂ r.sum derivative_one (derivative_copies n) ∙ r.zero_is_neutral _
 
+  -- the derivative of a whole number
   pub derivative_whole : (c : ℤ) → d (whole_in a.arithmetic c) ≡ r.zero
   derivative_whole (pos n) = derivative_copies n
   derivative_whole (negsuc n) = sym (r.zero_is_neutral _) ∙ ap (λ x. r.sum x (d (whole_in a.arithmetic (negsuc n)))) (sym (derivative_copies (suc n))) ∙ sym (additive _ _) ∙ ap d (plus_minus a _) ∙ derivative_zero

@@ -30,6 +30,7 @@ is_within zero a b h = absurd (omega arith)
 is_within (suc n) a zero h = subst (IsGcd a zero) (sym (gcd_zero a zero refl)) (IsGcd-from_zero a zero refl)
 is_within (suc n) a (suc b) h = let r : a % suc b < suc b = omega arith in subst (IsGcd a (suc b)) (gcd_step a (suc b) (omega arith)) (IsGcd-from_mod a (suc b) _ (is_within n (suc b) (a % suc b) (omega arith)))
 
+-- Euclid's rule gives the greatest common divisor
 pub gcd_is : (a b : ℕ) → IsGcd a b (gcd a b)
 gcd_is a b = is_within (suc b) a b (omega arith)
 

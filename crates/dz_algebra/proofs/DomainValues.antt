@@ -27,6 +27,7 @@ module _ {E : Type 0} {o : Operations E} (laws : DomainLaws o) where
   copies_element zero a = refl
   copies_element (suc n) a = ap (o.sum a.0) (copies_element n a)
 
+  -- whole numbers
   pub whole_in_element : (c : ℤ) → (whole_in (values_arithmetic laws) c).0 ≡ whole_in o.arithmetic c
   whole_in_element (pos n) = copies_element n _
   whole_in_element (negsuc n) = ap o.negative (copies_element (suc n) _)
@@ -39,28 +40,35 @@ module _ {E : Type 0} {o : Operations E} (laws : DomainLaws o) where
   monomial_element at [] = refl
   monomial_element at (p ∷ m) = ap₂ o.product (power_element (at p.0) p.1) (monomial_element at m)
 
+  -- the element of a value is the value of the elements
   pub value_element : {S : Type 0} (at : S → Value o) (ts : Contributions S) → (value (values_arithmetic laws) at ts).0 ≡ value o.arithmetic (λ s. (at s).0) ts
   value_element at [] = refl
   value_element at (t ∷ ts) = ap₂ o.sum (ap₂ o.product (whole_in_element t.1) (monomial_element at t.0)) (value_element at ts)
 
+  -- the derivative of zero is zero
   pub derivative_of_zero : (i : ℕ) → i < o.derivations → o.derivative i o.zero ≡ o.zero
   derivative_of_zero i h =
       ap (λ x. x.0) (additive_zero ring (λ a. (o.derivative i a.0, laws.derivative_is_value i a.0 h a.1)) (λ a b. same_value o _ _ (laws.derivative_of_sum i a.0 b.0 h a.1 b.1)))
 
+  -- values have no zero divisors
   pub value_divisors : (a b : Value o) → ring.product a b ≡ ring.zero → (a ≡ ring.zero) ⊎ (b ≡ ring.zero)
   value_divisors a b e = elim (laws.no_zero_divisors a.0 b.0 a.1 b.1 (ap (λ x. x.0) e)) [ inl h ↦ inl (same_value o a ring.zero h) | inr h ↦ inr (same_value o b ring.zero h) ]
 
+  -- no number of copies of one is zero
   pub value_characteristic : (m : ℕ) → copies (values_arithmetic laws) (suc m) ring.one ≢ ring.zero
   value_characteristic m e = laws.one_is_not_zero (laws.characteristic_is_zero m o.one laws.one_is_value (sym (copies_element (suc m) ring.one) ∙ ap (λ x. x.0) e))
 
   -- ---- the values of symbols are values
   module _ {S : Type 0} (at : S → E) (are_values : (s : S) → IsTrue (o.is_value (at s))) where
+    -- the value of a symbol, as a value
     abbrev pub symbol_at : S → Value o
     symbol_at s = (at s, are_values s)
 
+    -- its element
     pub value_there : (ts : Contributions S) → (value (values_arithmetic laws) symbol_at ts).0 ≡ value o.arithmetic at ts
     value_there ts = value_element symbol_at ts
 
+    -- the value of a polynomial is a value
     pub value_is_value : (ts : Contributions S) → IsTrue (o.is_value (value o.arithmetic at ts))
     value_is_value ts = subst (λ x. IsTrue (o.is_value x)) (value_there ts) (value (values_arithmetic laws) symbol_at ts).1
 
@@ -69,13 +77,16 @@ module _ {E : Type 0} {o : Operations E} (laws : DomainLaws o) where
     value_of_norm p = sym (value_there p) ∙ ap (λ x. x.0) (value_norm ring symbol_at p) ∙ ap₂ o.product (whole_in_element (signed_content p)) (value_there (norm p))
 
     module _ (cmp : S → S → Ordering) (order : IsOrder cmp) where
+      -- contributions have the value of what they make
       pub value_of_collected : (ts : Contributions S) → value o.arithmetic at (collect (monomial_cmp cmp) ts) ≡ value o.arithmetic at ts
       value_of_collected ts = sym (value_there _) ∙ ap (λ x. x.0) (collect_value ring cmp order.same symbol_at (monomial_cmp cmp) (same_monomial order) ts) ∙ value_there ts
 
+      -- the value of a sum
       pub value_of_sum : (a b : Polynomial S) → value o.arithmetic at (polynomial_sum cmp a b) ≡ o.sum (value o.arithmetic at a) (value o.arithmetic at b)
       unfolding polynomial_sum
       value_of_sum a b = value_of_collected (a ++ b) ∙ sym (value_there _) ∙ ap (λ x. x.0) (value-append ring cmp order.same symbol_at a b) ∙ ap₂ o.sum (value_there a) (value_there b)
 
+      -- the value of a difference
       pub value_of_difference : (a b : Polynomial S) → value o.arithmetic at (polynomial_difference cmp a b) ≡ o.sum (value o.arithmetic at a) (o.negative (value o.arithmetic at b))
       unfolding polynomial_difference
       value_of_difference a b =
@@ -83,6 +94,7 @@ module _ {E : Type 0} {o : Operations E} (laws : DomainLaws o) where
           ∙ ap (λ x. x.0) (value-append ring cmp order.same symbol_at a (negated b) ∙ ap (ring.sum (value (values_arithmetic laws) symbol_at a)) (negated_value ring cmp order.same symbol_at b))
           ∙ ap₂ (λ x y. o.sum x (o.negative y)) (value_there a) (value_there b)
 
+      -- the value of a product
       pub value_of_product : (a b : Polynomial S) → value o.arithmetic at (polynomial_product cmp a b) ≡ o.product (value o.arithmetic at a) (value o.arithmetic at b)
       unfolding polynomial_product
       value_of_product a b = value_of_collected (pairs cmp a b) ∙ sym (value_there _) ∙ ap (λ x. x.0) (pairs_value ring cmp order.same symbol_at a b) ∙ ap₂ o.product (value_there a) (value_there b)

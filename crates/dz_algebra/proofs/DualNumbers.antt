@@ -5,6 +5,7 @@ use Rattle.dz_algebra.specs.Ring.{Ring, sum_of_sums, sum_times, zero_product}
 use Rattle.dz_algebra.proofs.Homomorphisms.{IsHomomorphism}
 
 module _ {R : Type 0} (r : Ring R) where
+  -- sums by parts, products by Leibniz' rule
   abbrev pub dual_arithmetic : Arithmetic (R × R)
   dual_arithmetic = record {
     zero = (r.zero, r.zero);
@@ -14,12 +15,15 @@ module _ {R : Type 0} (r : Ring R) where
     product = λ x y. (r.product x.0 y.0, r.sum (r.product x.1 y.0) (r.product x.0 y.1));
   }
 
+  -- dual numbers with equal parts are equal
   pub pair : {a b : R} {x y : R} → a ≡ b → x ≡ y → ◌≡◌ {A = R × R} (a, x) (b, y)
   pair e f = ap₂ (λ a x. (a, x)) e f
 
+  -- the slope of a product commutes
   pub commuted : (x y : R × R) → r.sum (r.product x.1 y.0) (r.product x.0 y.1) ≡ r.sum (r.product y.1 x.0) (r.product y.0 x.1)
   commuted x y = r.sum_commutes _ _ ∙ ap₂ r.sum (r.product_commutes x.0 y.1) (r.product_commutes x.1 y.0)
 
+  -- the slope of a product of three associates
   pub associated : (x y z : R × R) → r.sum (r.product (r.sum (r.product x.1 y.0) (r.product x.0 y.1)) z.0) (r.product (r.product x.0 y.0) z.1) ≡ r.sum (r.product x.1 (r.product y.0 z.0)) (r.product x.0 (r.sum (r.product y.1 z.0) (r.product y.0 z.1)))
   associated x y z =
       ap (λ w. r.sum w (r.product (r.product x.0 y.0) z.1)) (sum_times r (r.product x.1 y.0) (r.product x.0 y.1) z.0)
@@ -27,6 +31,7 @@ module _ {R : Type 0} (r : Ring R) where
       ∙ ap₂ r.sum (r.product_associates x.1 y.0 z.0)
       (ap₂ r.sum (r.product_associates x.0 y.1 z.0) (r.product_associates x.0 y.0 z.1) ∙ sym (r.product_distributes x.0 (r.product y.1 z.0) (r.product y.0 z.1)))
 
+  -- dual numbers are a commutative ring
   abbrev pub dual_ring : Ring (R × R)
   dual_ring = record {
     arithmetic = dual_arithmetic;

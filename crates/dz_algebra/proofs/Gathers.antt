@@ -54,6 +54,7 @@ module _ {K V : Type 0} {cmp : K → K → Ordering} (order : IsOrder cmp) (add 
         | Greater ↦ λ e. ((e, above_more k t.0 ts e f.0), f)
       ] refl
 
+  -- putting keeps a list falling
   pub falling_onto : (rs ts : List (K × V)) → IsFalling cmp ts → IsFalling cmp (onto cmp add rs ts)
   falling_onto [] ts f = f
   falling_onto (r ∷ rs) ts f = falling_put r.0 r.1 (onto cmp add rs ts) (falling_onto rs ts f)
@@ -98,6 +99,7 @@ module _ {K V : Type 0} {cmp : K → K → Ordering} (order : IsOrder cmp) (add 
         | Greater ↦ omega arith
       ]
 
+  -- a list is never shorter for more contributions
   pub longer_onto : (rs ts : List (K × V)) → length ts ≤ length (onto cmp add rs ts)
   longer_onto [] ts = omega arith
   longer_onto (r ∷ rs) ts = let h = longer_onto rs ts in let g = longer_put r.0 r.1 (onto cmp add rs ts) in omega arith
@@ -121,6 +123,7 @@ module _ {K V : Type 0} {cmp : K → K → Ordering} (order : IsOrder cmp) (add 
       twice true c = refl
       twice false c = refl
 
+  -- some key passes a test if one of the contributions does
   pub any_onto : (test : K → Bool) (rs ts : List (K × V)) → list_any (λ t. test t.0) (onto cmp add rs ts) ≡ (list_any (λ t. test t.0) rs || list_any (λ t. test t.0) ts)
   any_onto test [] ts = refl
   any_onto test (r ∷ rs) ts = any_put test r.0 r.1 (onto cmp add rs ts) ∙ ap (λ b. test r.0 || b) (any_onto test rs ts) ∙ grouped (test r.0) _ _

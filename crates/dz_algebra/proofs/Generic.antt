@@ -18,6 +18,7 @@ module _ {S : Type 0} {cmp : S → S → Ordering} (order : IsOrder cmp) where
   abbrev R : Ring (Canonical order)
   R = polynomial_ring order
 
+  -- a symbol is a canonical polynomial
   pub symbol_is : (s : S) → IsPolynomial cmp (symbol_polynomial s)
   symbol_is s = (λ e. cc, (omega arith, tt, tt), tt, tt)
 

@@ -25,18 +25,22 @@ identity r = record {
 }
 
 module _ {A R : Type 0} (a : Ring A) (r : Ring R) (image : A → R) (keeps : IsHomomorphism a r image) where
+  -- the image of copies
   pub image_copies : (n : ℕ) (x : A) → image (copies a.arithmetic n x) ≡ copies r.arithmetic n (image x)
   image_copies zero x = keeps.zero
   image_copies (suc n) x = keeps.sum x (copies a.arithmetic n x) ∙ ap (r.sum (image x)) (image_copies n x)
 
+  -- the image of a whole number
   pub image_whole : (c : ℤ) → image (whole_in a.arithmetic c) ≡ whole_in r.arithmetic c
   image_whole (pos n) = image_copies n a.one ∙ ap (copies r.arithmetic n) keeps.one
   image_whole (negsuc n) = keeps.negative (copies a.arithmetic (suc n) a.one) ∙ ap r.negative (image_copies (suc n) a.one ∙ ap (copies r.arithmetic (suc n)) keeps.one)
 
+  -- the image of a power
   pub image_power : (x : A) (e : ℕ) → image (power a.arithmetic x e) ≡ power r.arithmetic (image x) e
   image_power x zero = keeps.one
   image_power x (suc e) = keeps.product x (power a.arithmetic x e) ∙ ap (r.product (image x)) (image_power x e)
 
+  -- the image of the value of a monomial
   pub image_monomial : {S : Type 0} (at : S → A) (m : Monomial S) → image (monomial_value a.arithmetic at m) ≡ monomial_value r.arithmetic (λ s. image (at s)) m
   image_monomial at [] = keeps.one
   image_monomial at (p ∷ m) = keeps.product (power a.arithmetic (at p.0) p.1) (monomial_value a.arithmetic at m) ∙ ap₂ r.product (image_power (at p.0) p.1) (image_monomial at m)

@@ -58,6 +58,7 @@ module _ {S : Type 0} (g : Symbols S) (order : IsOrder g.cmp) where
       let k = bound_monomial t.0 best v r.0 in
       (k.0, (k.1, r.1))
 
+  -- no derivative that occurs is greater than the leader
   pub leader_greatest : (p : Polynomial S) (v : S) → leader g p ≡ Some v → PolynomialIn (λ s. IsTrue (g.is_derivative s) → g.cmp s v ≢ Greater) p
   leader_greatest p v e = (bound_polynomial p None v (itself_at_most (leader_from g p None) v e)).1
 
@@ -99,6 +100,7 @@ module _ {S : Type 0} (g : Symbols S) (order : IsOrder g.cmp) where
     | inl f ↦ elim (occurs_monomial t.0 best v h.1 f) [ inl k ↦ inl k | inr o ↦ inr (o.0, omega (arith, o.1)) ]
   ]
 
+  -- the leader is a derivative that occurs
   pub leader_occurs : (p : Polynomial S) (v : S) → IsPolynomial g.cmp p → leader g p ≡ Some v → IsTrue (g.is_derivative v) × (0 < degree g.cmp v p)
   leader_occurs p v h e = elim (occurs_polynomial p None v h e) [ inl f ↦ absurd cc | inr o ↦ o ]
 
@@ -139,8 +141,10 @@ module _ {S : Type 0} (g : Symbols S) where
   none_is None e = refl
   none_is (Some s) e = cc
 
+  -- a ground polynomial has no leader
   pub ground_no_leader : (p : Polynomial S) → is_ground g p ≡ true → leader g p ≡ None
   ground_no_leader p e = none_is (leader g p) (none_polynomial p ∙ e)
 
+  -- a polynomial without leader is ground
   pub no_leader_ground : (p : Polynomial S) → leader g p ≡ None → is_ground g p ≡ true
   no_leader_ground p e = sym (none_polynomial p) ∙ ap is_none e

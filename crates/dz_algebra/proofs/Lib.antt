@@ -23,3 +23,6 @@ pub mod LawProofs
 pub mod ExampleProofs
 pub mod Leaders
 pub mod Coefficients
+pub mod SameAmounts
+pub mod OperationOrder
+pub mod Inside

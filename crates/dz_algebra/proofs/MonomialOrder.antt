@@ -1,14 +1,14 @@
 -- Multiplying keeps the order of monomials, and so does leaving out a power that is the same.
-use Rattle.std.proofs.Common.{◌≡◌, ◌<◌, ◌+◌, ◌∙◌, ℕ, [], ◌∷◌, refl, sym, ap, ap₂, arith}
+use Rattle.std.proofs.Common.{◌≡◌, ◌<◌, ◌+◌, ◌∙◌, ℕ, [], ◌∷◌, refl, sym, ap, ap₂, subst, arith}
 use Rattle.std.specs.declared.cmp.Ordering.{Ordering}
 use Rattle.std.specs.declared.cmp.Ordering.TheVariants.{Less, Equal, Greater}
 use Rattle.std.specs.Ordering.{match_ordering, ordering_then, nat_cmp}
 use Rattle.std.specs.Cmp.{tied_itself}
 use Rattle.std.proofs.lemmas.Bool.Decides.{nat_tests}
-use Rattle.dz_algebra.specs.Order.{IsOrder}
-use Rattle.dz_algebra.specs.Monomial.{Monomial, IsMonomial, with_power, monomial_product, monomial_cmp}
+use Rattle.dz_algebra.specs.Order.{IsOrder, IsAbove}
+use Rattle.dz_algebra.specs.Monomial.{Monomial, IsMonomial, IsLarger, with_power, monomial_product, monomial_cmp, exponent}
 use Rattle.dz_algebra.proofs.Orders.{less_reversed, greater_reversed, greater_trans}
-use Rattle.dz_algebra.proofs.Monomials.{product_is}
+use Rattle.dz_algebra.proofs.Monomials.{product_is, exponent_below, above_more}
 
 module _ {S : Type 0} {cmp : S → S → Ordering} (order : IsOrder cmp) where
   abbrev by : Monomial S → Monomial S → Ordering
@@ -94,3 +94,54 @@ module _ {S : Type 0} {cmp : S → S → Ordering} (order : IsOrder cmp) where
   product_keeps_order (p ∷ k) m n i j l =
       power_keeps_order p.0 p.1 i.0 (monomial_product cmp k m) (monomial_product cmp k n) (product_is order k m i.2 j) (product_is order k n i.2 l)
       ∙ product_keeps_order k m n i.2 j l
+
+  -- ---- the greater of two monomials has the larger exponent at the greatest symbol at which they differ
+  head_exponent : (p : S × ℕ) (m : Monomial S) → IsAbove cmp p.0 m → exponent cmp p.0 (p ∷ m) ≡ p.1
+  head_exponent p m a = ap₂ (λ o x. match_ordering o x (p.1 + x) x) (tied_itself order.total p.0) (exponent_below order p.0 m a) ∙ omega arith
+
+  past_exponent : (t : S) (p : S × ℕ) (m : Monomial S) → IsAbove cmp p.0 m → cmp t p.0 ≡ Greater → exponent cmp t (p ∷ m) ≡ 0
+  past_exponent t p m a h = exponent_below order t (p ∷ m) (h, above_more order t p.0 m h a)
+
+  abbrev IsLargerAt : Monomial S → Monomial S → S → Type 0
+  IsLargerAt m n s = IsLarger cmp m n s
+
+  -- by induction over both: the first pair that differs decides
+  pub greater_is_larger : (m n : Monomial S) → IsMonomial cmp m → IsMonomial cmp n → by m n ≡ Greater → (s : S) × IsLarger cmp m n s
+  greater_is_larger [] [] i j e = absurd cc
+  greater_is_larger [] (q ∷ n) i j e = absurd cc
+  greater_is_larger (p ∷ m) [] i j e = (p.0, (omega (arith, i.0, head_exponent p m i.1), (λ t h. past_exponent t p m i.1 h)))
+  greater_is_larger (p ∷ m) (q ∷ n) i j e = by_symbol (cmp p.0 q.0) refl (λ f. greater_is_larger m n i.2 j.2 f)
+    where
+      first : (x : ℕ) → exponent cmp p.0 (q ∷ n) ≡ x → x < p.1 → ((t : S) → cmp t p.0 ≡ Greater → exponent cmp t (q ∷ n) ≡ 0) → (s : S) × IsLargerAt (p ∷ m) (q ∷ n) s
+      first x f l z = (p.0, (omega (arith, f, l, head_exponent p m i.1), (λ t h. past_exponent t p m i.1 h ∙ sym (z t h))))
+
+      by_exponent : p.0 ≡ q.0 → (o : Ordering) → nat_cmp p.1 q.1 ≡ o → ordering_then o (by m n) ≡ Greater → (by m n ≡ Greater → (s : S) × IsLargerAt m n s) → (s : S) × IsLargerAt (p ∷ m) (q ∷ n) s
+      by_exponent k Less g f rest = absurd cc
+      by_exponent k Greater g f rest =
+          let l : q.1 < p.1 = more_is p.1 q.1 g in
+          first q.1 (ap (λ s. exponent cmp s (q ∷ n)) k ∙ head_exponent q n j.1) l (λ t h. past_exponent t q n j.1 (ap (cmp t) (sym k) ∙ h))
+        where
+          more_is : (a b : ℕ) → nat_cmp a b ≡ Greater → b < a
+          more_is a b g = grind (arith, nat_tests)
+      by_exponent k Equal g f rest =
+          let r = rest f in
+          (r.0, (kept r.0 r.1.0, (λ t h. ap₂ (λ x y. match_ordering (cmp t p.0) x (p.1 + x) x) (r.1.1 t h) (r.1.1 t h) ∙ ap₂ (λ (s : S) (c : ℕ). match_ordering (cmp t s) (exponent cmp t n) (c + exponent cmp t n) (exponent cmp t n)) k (same_number p.1 q.1 g))))
+        where
+          same_number : (a b : ℕ) → nat_cmp a b ≡ Equal → a ≡ b
+          same_number a b g = grind (arith, nat_tests)
+
+          larger : (o : Ordering) (c x y : ℕ) → x < y → match_ordering o x (c + x) x < match_ordering o y (c + y) y
+          larger Less c x y l = l
+          larger Equal c x y l = omega arith
+          larger Greater c x y l = l
+
+          kept : (s : S) → exponent cmp s n < exponent cmp s m → exponent cmp s (q ∷ n) < exponent cmp s (p ∷ m)
+          kept s l =
+              subst (λ x. x < exponent cmp s (p ∷ m))
+              (ap₂ (λ (t : S) (c : ℕ). match_ordering (cmp s t) (exponent cmp s n) (c + exponent cmp s n) (exponent cmp s n)) k (same_number p.1 q.1 g))
+              (larger (cmp s p.0) p.1 (exponent cmp s n) (exponent cmp s m) l)
+
+      by_symbol : (o : Ordering) → cmp p.0 q.0 ≡ o → (by m n ≡ Greater → (s : S) × IsLargerAt m n s) → (s : S) × IsLargerAt (p ∷ m) (q ∷ n) s
+      by_symbol Less h rest = let f = sym (less_head p q m n h) ∙ e in absurd cc
+      by_symbol Greater h rest = first 0 (past_exponent p.0 q n j.1 h) i.0 (λ t k. past_exponent t q n j.1 (greater_trans order.total t p.0 q.0 k h))
+      by_symbol Equal h rest = by_exponent (order.same p.0 q.0 h) (nat_cmp p.1 q.1) refl (sym (equal_head p q m n (nat_cmp p.1 q.1) h refl) ∙ e) rest

@@ -12,10 +12,12 @@ module _ {S : Type 0} {cmp : S → S → Ordering} (order : IsOrder cmp) where
   tied : (s : S) → cmp s s ≡ Equal
   tied s = tied_itself order.total s
 
+  -- the exponent of a symbol above all of a monomial
   pub exponent_below : (s : S) (m : Monomial S) → IsAbove cmp s m → exponent cmp s m ≡ 0
   exponent_below s [] a = refl
   exponent_below s (p ∷ m) a = ap (λ o. match_ordering o (exponent cmp s m) (p.1 + exponent cmp s m) (exponent cmp s m)) a.0 ∙ exponent_below s m a.1
 
+  -- what is above a symbol is above what that is above
   pub above_more : (s t : S) (m : Monomial S) → cmp s t ≡ Greater → IsAbove cmp t m → IsAbove cmp s m
   above_more s t [] h a = tt
   above_more s t (p ∷ m) h a = (greater_trans order.total s t p.0 h a.0, above_more s t m h a.1)
@@ -23,6 +25,7 @@ module _ {S : Type 0} {cmp : S → S → Ordering} (order : IsOrder cmp) where
   exponent_at : (s : S) (p : S × ℕ) (m : Monomial S) → cmp s p.0 ≡ Equal → exponent cmp s (p ∷ m) ≡ p.1 + exponent cmp s m
   exponent_at s p m e = ap (λ o. match_ordering o (exponent cmp s m) (p.1 + exponent cmp s m) (exponent cmp s m)) e
 
+  -- monomials with equal exponents are equal
   pub same_exponents : (m n : Monomial S) → IsMonomial cmp m → IsMonomial cmp n → ((s : S) → exponent cmp s m ≡ exponent cmp s n) → m ≡ n
   same_exponents [] [] a b e = refl
   same_exponents [] (q ∷ n) a b e = absurd (omega (arith, b.0, e q.0, exponent_at q.0 q n (tied q.0)))
@@ -83,6 +86,7 @@ module _ {S : Type 0} {cmp : S → S → Ordering} (order : IsOrder cmp) where
       before Equal e x = refl
       before Greater e x = omega arith
 
+  -- exponents add in a product
   pub exponent_product : (s : S) (m n : Monomial S) → exponent cmp s (monomial_product cmp m n) ≡ exponent cmp s m + exponent cmp s n
   exponent_product s [] n = omega arith
   exponent_product s (p ∷ m) n = exponent_with_power s p.0 p.1 (monomial_product cmp m n) ∙ ap (λ x. match_ordering (cmp s p.0) 0 p.1 0 + x) (exponent_product s m n) ∙ split (cmp s p.0) p.1 (exponent cmp s m) (exponent cmp s n)
@@ -101,6 +105,7 @@ module _ {S : Type 0} {cmp : S → S → Ordering} (order : IsOrder cmp) where
         | Greater ↦ (h, a)
       ]
 
+  -- a monomial times a power is a monomial
   pub with_power_is : (s : S) (e : ℕ) (m : Monomial S) → 0 < e → IsMonomial cmp m → IsMonomial cmp (with_power cmp s e m)
   with_power_is s e [] h i = (h, tt, tt)
   with_power_is s e (p ∷ m) h i =
@@ -110,15 +115,18 @@ module _ {S : Type 0} {cmp : S → S → Ordering} (order : IsOrder cmp) where
         | Greater ↦ λ f. (h, (f, above_more s p.0 m f i.1), i)
       ] refl
 
+  -- a product of monomials is a monomial
   pub product_is : (m n : Monomial S) → IsMonomial cmp m → IsMonomial cmp n → IsMonomial cmp (monomial_product cmp m n)
   product_is [] n h g = g
   product_is (p ∷ m) n h g = with_power_is p.0 p.1 (monomial_product cmp m n) h.0 (product_is m n h.2 g)
 
+  -- products of monomials commute
   pub product_commutes : (m n : Monomial S) → IsMonomial cmp m → IsMonomial cmp n → monomial_product cmp m n ≡ monomial_product cmp n m
   product_commutes m n h g =
       same_exponents (monomial_product cmp m n) (monomial_product cmp n m) (product_is m n h g) (product_is n m g h)
       (λ s. omega (arith, exponent_product s m n, exponent_product s n m))
 
+  -- and associate
   pub product_associates : (k m n : Monomial S) → IsMonomial cmp k → IsMonomial cmp m → IsMonomial cmp n → monomial_product cmp (monomial_product cmp k m) n ≡ monomial_product cmp k (monomial_product cmp m n)
   product_associates k m n f h g =
       same_exponents (monomial_product cmp (monomial_product cmp k m) n) (monomial_product cmp k (monomial_product cmp m n)) (product_is (monomial_product cmp k m) n (product_is k m f h) g) (product_is k (monomial_product cmp m n) f (product_is m n h g))

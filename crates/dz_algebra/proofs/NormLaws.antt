@@ -22,10 +22,12 @@ one_divides n = subst (λ k. 1 ∣ k) (one_times n) (dvd-mul_right 1 n)
     one_times n = omega arith
 
 module _ {M : Type 0} where
+  -- the content of a multiple
   pub content_scaled : (k : ℤ) → 0 < unsigned_abs k → (p : List (M × ℤ)) → content (scaled k p) ≡ unsigned_abs k * content p
   content_scaled k h [] = omega arith
   content_scaled k h (t ∷ p) = ap₂ gcd (unsigned_abs-mul k t.1) (content_scaled k h p) ∙ gcd_multiple (unsigned_abs k) (unsigned_abs t.1) (content p) h
 
+  -- a multiple of a multiple
   pub scaled_again : (k l : ℤ) (p : List (M × ℤ)) → scaled k (scaled l p) ≡ scaled (k *ℤ l) p
   scaled_again k l [] = refl
   scaled_again k l (t ∷ p) = ap₂ (λ (c : ℤ) (q : List (M × ℤ)). (t.0, c) ∷ q) (sym (whole_ring.product_associates k l t.1)) (scaled_again k l p)
@@ -56,6 +58,7 @@ cancelled k a b h e =
 quotient : (k c : ℤ) → k ≢ pos 0 → int_div (k *ℤ c) k ≡ c
 quotient k c h = sym (cancelled k c (int_div (k *ℤ c) k) h (exact (k *ℤ c) k (unsigned_abs k) refl (subst (λ n. unsigned_abs k ∣ n) (sym (unsigned_abs-mul k c)) (dvd-mul_right (unsigned_abs k) (unsigned_abs c)))))
 
+-- a multiple divided by its factor
 pub divided_scaled : {M : Type 0} (k : ℤ) → k ≢ pos 0 → (p : List (M × ℤ)) → divided k (scaled k p) ≡ p
 divided_scaled k h [] = refl
 divided_scaled {M} k h (t ∷ p) = ap₂ (λ (c : ℤ) (q : List (M × ℤ)). (t.0, c) ∷ q) (quotient k t.1 h) (divided_scaled k h p)
@@ -72,6 +75,7 @@ module _ {S : Type 0} (cmp : S → S → Ordering) where
   still_nonzero : (k c : ℤ) → k ≢ pos 0 → c ≢ pos 0 → k *ℤ c ≢ pos 0
   still_nonzero k c h g e = elim (no_divisors k c e) [ inl a ↦ h a | inr b ↦ g b ]
 
+  -- a nonzero multiple is canonical
   pub scaled_is : (k : ℤ) → k ≢ pos 0 → (p : Polynomial S) → IsPolynomial cmp p → IsPolynomial cmp (scaled k p)
   scaled_is k h [] a = tt
   scaled_is k h (t ∷ p) a = (still_nonzero k t.1 h a.0, a.1, scaled_above t.0 k p a.2, scaled_is k h p a.3)
@@ -81,6 +85,7 @@ module _ {S : Type 0} (cmp : S → S → Ordering) where
   unscaled_is k [] a = tt
   unscaled_is k (t ∷ p) a = (λ e. a.0 (ap (λ c. k *ℤ c) e ∙ times_zero k), a.1, above_scaled t.0 k p a.2, unscaled_is k p a.3)
 
+  -- the norm is canonical
   pub norm_is : (p : Polynomial S) → IsPolynomial cmp p → IsPolynomial cmp (norm p)
   norm_is p h = unscaled_is (signed_content p) (norm p) (subst (IsPolynomial cmp) (sym (scaled_norm p)) h)
 
@@ -125,6 +130,7 @@ module _ {M : Type 0} (t : M × ℤ) (p : List (M × ℤ)) (normal : IsNormal t 
   scaled_by_one [] = refl
   scaled_by_one (u ∷ q) = ap₂ (λ (c : ℤ) (l : List (M × ℤ)). (u.0, c) ∷ l) (whole_ring.one_is_neutral u.1) (scaled_by_one q)
 
+  -- a normal polynomial is its own norm
   pub own_norm : norm (t ∷ p) ≡ t ∷ p
   own_norm = ap norm (sym (scaled_by_one (t ∷ p))) ∙ norm_of_multiple (pos 1) (λ e. cc)
 
@@ -177,3 +183,11 @@ module _ {S : Type 0} (cmp : S → S → Ordering) where
       let l = signed_content (t ∷ p) in
       ap (λ q. norm (scaled k q)) (sym (scaled_norm (t ∷ p))) ∙ ap norm (scaled_again k l (norm (t ∷ p)))
       ∙ norm_of_multiple (t.0, int_div t.1 l) (divided l p) (norm_normal cmp t p a) (k *ℤ l) (still_nonzero cmp k l h (signed_content_nonzero cmp (t ∷ p) a))
+
+  -- the norm has no common divisor, and its first coefficient is positive
+  pub norm_content : (p : Polynomial S) → IsPolynomial cmp p → p ≢ [] → signed_content (norm p) ≡ pos 1
+  unfolding norm
+  norm_content [] h n = absurd (n refl)
+  norm_content (t ∷ p) h n =
+      let q = norm_normal cmp t p h in
+      ap₂ (λ b g. cond b (neg_ℤ (pos g)) (pos g)) q.positive q.primitive

@@ -17,10 +17,12 @@ abbrev pub Divides : {M : Type 0} → ℕ → List (M × ℤ) → Type 0
 Divides g [] = Unit {0}
 Divides g (t ∷ p) = (g ∣ unsigned_abs t.1) × Divides g p
 
+-- a divisor of a divisor divides
 pub divides_more : {M : Type 0} (g k : ℕ) (p : List (M × ℤ)) → g ∣ k → Divides k p → Divides g p
 divides_more g k [] h a = tt
 divides_more g k (t ∷ p) h a = (dvd_trans g h a.0, divides_more g k p h a.1)
 
+-- the content divides each coefficient
 pub content_divides : {M : Type 0} (p : List (M × ℤ)) → Divides (content p) p
 content_divides [] = tt
 content_divides (t ∷ p) =
@@ -44,6 +46,7 @@ size_by_sign true zero = refl
 size_by_sign true (suc g) = refl
 size_by_sign false g = refl
 
+-- the absolute value of the signed content is the content
 pub signed_content_size : {M : Type 0} (t : M × ℤ) (p : List (M × ℤ)) → unsigned_abs (signed_content (t ∷ p)) ≡ content (t ∷ p)
 signed_content_size t p = size_by_sign (int_lt t.1 (pos 0)) (content (t ∷ p))
 
@@ -52,6 +55,7 @@ scaled_divided : {M : Type 0} (k : ℤ) (g : ℕ) → unsigned_abs k ≡ g → (
 scaled_divided k g e [] h = refl
 scaled_divided {M} k g e (t ∷ p) h = ap₂ (λ (c : ℤ) (q : List (M × ℤ)). (t.0, c) ∷ q) (sym (exact t.1 k g e h.0)) (scaled_divided k g e p h.1)
 
+-- the norm times the signed content is the polynomial
 pub scaled_norm : {M : Type 0} (p : List (M × ℤ)) → scaled (signed_content p) (norm p) ≡ p
 unfolding norm
 scaled_norm [] = refl
@@ -61,6 +65,7 @@ size_zero : (c : ℤ) → unsigned_abs c ≡ 0 → c ≡ pos 0
 size_zero (pos n) e = ap pos e
 size_zero (negsuc n) e = absurd (omega arith)
 
+-- the content is positive, if the first coefficient is not zero
 pub content_positive : {M : Type 0} (t : M × ℤ) (p : List (M × ℤ)) → t.1 ≢ pos 0 → 0 < content (t ∷ p)
 content_positive t p h = by_content (content (t ∷ p)) (content_divides (t ∷ p)).0
   where
@@ -72,11 +77,13 @@ nonzero_size : (k : ℤ) (g : ℕ) → unsigned_abs k ≡ g → 0 < g → k ≢ 
 nonzero_size (pos n) g e h f = let a : n ≡ 0 = cc in omega arith
 nonzero_size (negsuc n) g e h f = cc
 
+-- the signed content of a polynomial is not zero
 pub signed_content_nonzero : {S : Type 0} (cmp : S → S → Ordering) (p : Polynomial S) → IsPolynomial cmp p → signed_content p ≢ pos 0
 signed_content_nonzero cmp [] h = λ e. cc
 signed_content_nonzero cmp (t ∷ p) h = nonzero_size (signed_content (t ∷ p)) (content (t ∷ p)) (signed_content_size t p) (content_positive t p h.0)
 
 module _ {R S : Type 0} (r : Ring R) (at : S → R) where
+  -- a value is the divisor times the value of the quotient
   pub value_divided : (k : ℤ) (g : ℕ) → unsigned_abs k ≡ g → (p : Polynomial S) → Divides g p → value r.arithmetic at p ≡ r.product (whole_in r.arithmetic k) (value r.arithmetic at (divided k p))
   value_divided k g e [] h = sym (product_zero r _)
   value_divided k g e (t ∷ p) h =

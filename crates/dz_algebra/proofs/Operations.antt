@@ -1,5 +1,5 @@
 -- What the operation with given contributions answers: the polynomial that they make, canonical, or a refusal.
-use Rattle.std.specs.Prelude.{Ok}
+use Rattle.std.specs.Prelude.{Ok, Err, ◌↔◌, IsTrue}
 use Rattle.std.proofs.Common.{◌≡◌, Bool, true, false, cond, List, [], ◌∷◌, ◌++◌, ℤ, zero, suc, pos, negsuc, ◌+ℤ◌, subst, Option, Some, None, refl, sym, ap, ◌∙◌, arith}
 use Rattle.std.proofs.lemmas.Int.{ints}
 use Rattle.std.specs.declared.cmp.Ordering.{Ordering}
@@ -12,7 +12,8 @@ use Rattle.dz_algebra.specs.Polynomial.{Polynomial, Contributions, IsPolynomial,
 use Rattle.dz_algebra.specs.Gather.{put, onto}
 use Rattle.dz_algebra.specs.Amount.{Amount, amount, amounts, add_amounts, gathered, nonzero}
 use Rattle.dz_algebra.specs.Symbols.{Symbols}
-use Rattle.dz_algebra.specs.Size.{refusal, unless, operation, support, fits}
+use Rattle.dz_algebra.specs.Size.{IsSmall, wide, large, limit_of, refused, refusal, unless, operation, support, fits}
+use Rattle.dz_algebra.specs.declared.Limit.{Limit}
 use Rattle.dz_algebra.proofs.Gathers.{falling_onto, merge_puts}
 use Rattle.dz_algebra.proofs.Orders.{same_monomial, monomial_cmp_total, greater_trans}
 use Rattle.dz_algebra.proofs.Canonical.{collect_is}
@@ -78,6 +79,7 @@ module _ {S : Type 0} {cmp : S → S → Ordering} (order : IsOrder cmp) where
   above_amounts m [] a = tt
   above_amounts m (t ∷ p) a = (a.0, above_amounts m p a.1)
 
+  -- the amounts of a polynomial fall
   pub falling_amounts : (p : Polynomial S) → IsPolynomial cmp p → IsFalling by (amounts p)
   falling_amounts [] h = tt
   falling_amounts (t ∷ p) h = (above_amounts t.0 p h.2, falling_amounts p h.3)
@@ -90,10 +92,12 @@ module _ {S : Type 0} {cmp : S → S → Ordering} (order : IsOrder cmp) where
   pub falling_gathered : (ts : Contributions S) → IsFalling by (gathered cmp ts)
   falling_gathered ts = falling_onto monomial_order add_amounts (amounts ts) [] tt
 
+  -- contributions are put one after the other
   pub onto-append : (rs ss ts : List (Monomial S × Amount)) → onto by add_amounts (rs ++ ss) ts ≡ onto by add_amounts rs (onto by add_amounts ss ts)
   onto-append [] ss ts = refl
   onto-append (r ∷ rs) ss ts = ap (put by add_amounts r.0 r.1) (onto-append rs ss ts)
 
+  -- the amounts of two lists of contributions
   pub amounts-append : (p q : Contributions S) → amounts (p ++ q) ≡ amounts p ++ amounts q
   amounts-append [] q = refl
   amounts-append (t ∷ p) q = ap (λ l. (t.0, amount t.1) ∷ l) (amounts-append p q)
@@ -125,5 +129,37 @@ pairs_zero cmp (t ∷ p) = pairs_zero cmp p
 pub product_left_zero : {S : Type 0} (g : Symbols S) (p : Polynomial S) → operation g (pairs g.cmp [] p) ≡ Ok []
 product_left_zero g p = operation_nothing g
 
+-- from either side
 pub product_right_zero : {S : Type 0} (g : Symbols S) (p : Polynomial S) → operation g (pairs g.cmp p []) ≡ Ok []
 product_right_zero g p = ap (operation g) (pairs_zero g.cmp p) ∙ operation_nothing g
+
+-- ---- when an operation is refused
+small_fits : {S : Type 0} (l : Option Limit) (b : Bool) (p : Polynomial S) → l ≡ None → b ≡ true → unless (refused l b) p ≡ Ok p
+small_fits None true p e f = refl
+small_fits None false p e f = cc
+small_fits (Some l) b p e f = cc
+
+-- what is small and fits is not refused
+pub operation_ok : {S : Type 0} (g : Symbols S) (ts : Contributions S) → IsSmall g ts → IsTrue (fits g.cmp ts) → operation g ts ≡ Ok (collect (monomial_cmp g.cmp) ts)
+unfolding operation refusal
+operation_ok g ts e f = small_fits (limit_of g (support g.cmp ts)) (fits g.cmp ts) (collect (monomial_cmp g.cmp) ts) e f
+
+large_there : {S : Type 0} (l : Option Limit) (b : Bool) (p : Polynomial S) (k : Limit) → (unless (refused l b) p ≡ Err (large k)) ↔ (l ≡ Some k)
+large_there None true p k = (λ e. cc, λ e. cc)
+large_there None false p k = (λ e. cc, λ e. cc)
+large_there (Some l) b p k = (λ e. cc, λ e. cc)
+
+-- an operation is large exactly where a limit is passed, and names the first
+pub operation_large : {S : Type 0} (g : Symbols S) (ts : Contributions S) (k : Limit) → (operation g ts ≡ Err (large k)) ↔ (limit_of g (support g.cmp ts) ≡ Some k)
+unfolding operation refusal
+operation_large g ts k = large_there (limit_of g (support g.cmp ts)) (fits g.cmp ts) (collect (monomial_cmp g.cmp) ts) k
+
+wide_there : {S : Type 0} (l : Option Limit) (b : Bool) (p : Polynomial S) → (unless (refused l b) p ≡ Err wide) ↔ ((l ≡ None) × (b ≡ false))
+wide_there None true p = (λ e. cc, λ e. let f = e.1 in cc)
+wide_there None false p = (λ e. (refl, refl), λ e. refl)
+wide_there (Some l) b p = (λ e. cc, λ e. let f = e.0 in cc)
+
+-- an operation is wide exactly where it is small and does not fit
+pub operation_wide : {S : Type 0} (g : Symbols S) (ts : Contributions S) → (operation g ts ≡ Err wide) ↔ (IsSmall g ts × (fits g.cmp ts ≡ false))
+unfolding operation refusal
+operation_wide g ts = wide_there (limit_of g (support g.cmp ts)) (fits g.cmp ts) (collect (monomial_cmp g.cmp) ts)

@@ -34,6 +34,7 @@ module _ {S : Type 0} {cmp : S → S → Ordering} (order : IsOrder cmp) where
   abbrev pub Canonical : Type 0
   Canonical = (p : Polynomial S) × IsPolynomial cmp p
 
+  -- canonical polynomials with one list are one
   pub same_canonical : (p q : Canonical) → p.0 ≡ q.0 → p ≡ q
   same_canonical p q e = Σ_prop_path (λ x. polynomial_prop cmp x) e
 
@@ -44,10 +45,12 @@ module _ {S : Type 0} {cmp : S → S → Ordering} (order : IsOrder cmp) where
   still_nonzero : (c : ℤ) → c ≢ pos 0 → neg_ℤ c ≢ pos 0
   still_nonzero c h e = h (omega (arith, ints))
 
+  -- the negative is canonical
   pub negated_is : (p : Polynomial S) → IsPolynomial cmp p → IsPolynomial cmp (negated p)
   negated_is [] h = tt
   negated_is (t ∷ p) h = (still_nonzero t.1 h.0, h.1, negated_above t.0 p h.2, negated_is p h.3)
 
+  -- the negative cancels
   pub total_negated : (f : Monomial S → ℤ) (p : Polynomial S) → total f (negated p) +ℤ total f p ≡ pos 0
   unfolding total
   total_negated f [] = refl
@@ -59,10 +62,12 @@ module _ {S : Type 0} {cmp : S → S → Ordering} (order : IsOrder cmp) where
       cancelled : (a x y b : ℤ) → b +ℤ a ≡ pos 0 → x +ℤ y ≡ pos 0 → (b +ℤ x) +ℤ (a +ℤ y) ≡ pos 0
       cancelled a x y b e f = omega (arith, ints)
 
+  -- one is canonical
   pub one_is : IsPolynomial cmp polynomial_one
   unfolding polynomial_one
   one_is = (λ e. cc, tt, tt, tt)
 
+  -- the sum associates
   pub sum_associates : (p q s : Polynomial S) → IsPolynomial cmp p → IsPolynomial cmp q → IsPolynomial cmp s → polynomial_sum cmp (polynomial_sum cmp p q) s ≡ polynomial_sum cmp p (polynomial_sum cmp q s)
   unfolding polynomial_sum
   sum_associates p q s h g k =
@@ -73,12 +78,14 @@ module _ {S : Type 0} {cmp : S → S → Ordering} (order : IsOrder cmp) where
       (λ f. total-append f a s ∙ ap (λ x. x +ℤ total f s) (total_collect order f (p ++ q) ∙ total-append f p q) ∙ whole_ring.sum_associates (total f p) (total f q) (total f s)
       ∙ sym (total-append f p b ∙ ap (λ x. total f p +ℤ x) (total_collect order f (q ++ s) ∙ total-append f q s)))
 
+  -- a polynomial and its negative add up to zero
   pub negative_is_inverse : (p : Polynomial S) → IsPolynomial cmp p → polynomial_sum cmp (negated p) p ≡ []
   unfolding total polynomial_sum
   negative_is_inverse p h =
       same_by_totals order (negated p ++ p) [] (monomials-append order (negated p) p (are_monomials order (negated p) (negated_is p h)) (are_monomials order p h)) tt
       (λ f. total-append f (negated p) p ∙ total_negated f p)
 
+  -- one times a polynomial is the polynomial
   pub one_is_neutral : (p : Polynomial S) → IsPolynomial cmp p → polynomial_product cmp polynomial_one p ≡ p
   unfolding total polynomial_one polynomial_product
   one_is_neutral p h =
@@ -89,6 +96,7 @@ module _ {S : Type 0} {cmp : S → S → Ordering} (order : IsOrder cmp) where
       single : (x : ℤ) → pos 1 *ℤ x +ℤ pos 0 ≡ x
       single x = omega (arith, ints)
 
+  -- zero and a polynomial add up to the polynomial
   pub zero_is_neutral : (p : Polynomial S) → IsPolynomial cmp p → polynomial_sum cmp [] p ≡ p
   unfolding polynomial_sum
   zero_is_neutral p h = collected order p h

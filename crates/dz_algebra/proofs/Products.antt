@@ -13,14 +13,17 @@ module _ {S : Type 0} {cmp : S → S → Ordering} (order : IsOrder cmp) where
   monomials_term_times m c [] h g = tt
   monomials_term_times m c (t ∷ q) h g = (product_is order m t.0 h g.0, monomials_term_times m c q h g.1)
 
+  -- the contributions of a product stand at monomials
   pub monomials_pairs : (p q : Polynomial S) → AreMonomials cmp p → AreMonomials cmp q → AreMonomials cmp (pairs cmp p q)
   monomials_pairs [] q h g = tt
   monomials_pairs (t ∷ p) q h g = monomials-append order (term_times cmp t.0 t.1 q) (pairs cmp p q) (monomials_term_times t.0 t.1 q h.0 g) (monomials_pairs p q h.1 g)
 
+  -- a product is canonical
   pub polynomial_product_is : (p q : Polynomial S) → IsPolynomial cmp p → IsPolynomial cmp q → IsPolynomial cmp (polynomial_product cmp p q)
   unfolding polynomial_product
   polynomial_product_is p q h g = collect_is order (pairs cmp p q) (monomials_pairs p q (are_monomials order p h) (are_monomials order q g))
 
+  -- products commute
   pub polynomial_product_commutes : (p q : Polynomial S) → IsPolynomial cmp p → IsPolynomial cmp q → polynomial_product cmp p q ≡ polynomial_product cmp q p
   unfolding polynomial_product
   polynomial_product_commutes p q h g =
@@ -31,6 +34,7 @@ module _ {S : Type 0} {cmp : S → S → Ordering} (order : IsOrder cmp) where
       ∙ same_total order _ _ (λ n k. same_total order _ _ (λ m l. ap f (product_commutes order m n l k)) p i) q j
       ∙ sym (total_pairs order f q p))
 
+  -- products associate
   pub polynomial_product_associates : (p q s : Polynomial S) → IsPolynomial cmp p → IsPolynomial cmp q → IsPolynomial cmp s → polynomial_product cmp (polynomial_product cmp p q) s ≡ polynomial_product cmp p (polynomial_product cmp q s)
   unfolding polynomial_product
   polynomial_product_associates p q s h g k =
@@ -45,10 +49,12 @@ module _ {S : Type 0} {cmp : S → S → Ordering} (order : IsOrder cmp) where
       ∙ same_total order _ _ (λ a x. same_total order _ _ (λ b y. same_total order _ _ (λ c w. ap f (product_associates order a b c x y w)) s l) q j) p i
       ∙ sym (total_pairs order f p right ∙ same_total order _ _ (λ a x. total_collect order (λ n. f (monomial_product cmp a n)) (pairs cmp q s) ∙ total_pairs order (λ n. f (monomial_product cmp a n)) q s) p i))
 
+  -- a sum is canonical
   pub polynomial_sum_is : (p q : Polynomial S) → IsPolynomial cmp p → IsPolynomial cmp q → IsPolynomial cmp (polynomial_sum cmp p q)
   unfolding polynomial_sum
   polynomial_sum_is p q h g = collect_is order (p ++ q) (monomials-append order p q (are_monomials order p h) (are_monomials order q g))
 
+  -- products distribute over sums
   pub polynomial_product_distributes : (p q s : Polynomial S) → IsPolynomial cmp p → IsPolynomial cmp q → IsPolynomial cmp s → polynomial_product cmp p (polynomial_sum cmp q s) ≡ polynomial_sum cmp (polynomial_product cmp p q) (polynomial_product cmp p s)
   unfolding polynomial_product polynomial_sum
   polynomial_product_distributes p q s h g k =

@@ -17,16 +17,19 @@ total f [] = pos 0
 total f (t ∷ ts) = t.1 *ℤ f t.0 +ℤ total f ts
 
 module _ {M : Type 0} where
+  -- the totals of two lists add
   pub total-append : (f : M → ℤ) (ts us : List (M × ℤ)) → total f (ts ++ us) ≡ total f ts +ℤ total f us
   unfolding total
   total-append f [] us = sym (whole_ring.zero_is_neutral _)
   total-append f (t ∷ ts) us = ap (λ x. t.1 *ℤ f t.0 +ℤ x) (total-append f ts us) ∙ sym (whole_ring.sum_associates (t.1 *ℤ f t.0) (total f ts) (total f us))
 
+  -- the total of a sum of functions
   pub total_sum : (f g : M → ℤ) (ts : List (M × ℤ)) → total (λ m. f m +ℤ g m) ts ≡ total f ts +ℤ total g ts
   unfolding total
   total_sum f g [] = refl
   total_sum f g (t ∷ ts) = ap₂ (λ x y. x +ℤ y) (whole_ring.product_distributes t.1 (f t.0) (g t.0)) (total_sum f g ts) ∙ sum_of_sums whole_ring (t.1 *ℤ f t.0) (t.1 *ℤ g t.0) (total f ts) (total g ts)
 
+  -- the total of a multiple of a function
   pub total_multiple : (c : ℤ) (f : M → ℤ) (ts : List (M × ℤ)) → total (λ m. c *ℤ f m) ts ≡ c *ℤ total f ts
   unfolding total
   total_multiple c f [] = sym (product_zero whole_ring c)
@@ -49,6 +52,7 @@ module _ {S : Type 0} {cmp : S → S → Ordering} (order : IsOrder cmp) where
   abbrev by : Monomial S → Monomial S → Ordering
   by = monomial_cmp cmp
 
+  -- functions that agree at monomials have one total
   pub same_total : (f g : Monomial S → ℤ) → ((m : Monomial S) → IsMonomial cmp m → f m ≡ g m) → (ts : List (Monomial S × ℤ)) → AreMonomials cmp ts → total f ts ≡ total g ts
   unfolding total
   same_total f g e [] h = refl
@@ -77,6 +81,7 @@ module _ {S : Type 0} {cmp : S → S → Ordering} (order : IsOrder cmp) where
         | Greater ↦ λ h. total_keep f m c (t ∷ p)
       ] refl
 
+  -- contributions and what they make have one total
   pub total_collect : (f : Monomial S → ℤ) (ts : List (Monomial S × ℤ)) → total f (collect by ts) ≡ total f ts
   unfolding total
   total_collect f [] = refl
@@ -89,6 +94,7 @@ module _ {S : Type 0} {cmp : S → S → Ordering} (order : IsOrder cmp) where
       ap₂ (λ x y. x +ℤ y) (whole_ring.product_associates c t.1 (f (monomial_product cmp m t.0))) (total_term_times f m c q)
       ∙ sym (whole_ring.product_distributes c (t.1 *ℤ f (monomial_product cmp m t.0)) (total (λ n. f (monomial_product cmp m n)) q))
 
+  -- the total of a product is a double total
   pub total_pairs : (f : Monomial S → ℤ) (p q : Polynomial S) → total f (pairs cmp p q) ≡ total (λ m. total (λ n. f (monomial_product cmp m n)) q) p
   unfolding total
   total_pairs f [] q = refl
@@ -108,5 +114,6 @@ module _ {S : Type 0} {cmp : S → S → Ordering} (order : IsOrder cmp) where
       one_case Equal c = sym (whole_ring.one_is_neutral c) ∙ whole_ring.product_commutes (pos 1) c
       one_case Greater c = sym (product_zero whole_ring c)
 
+  -- contributions with equal totals make one polynomial
   pub same_by_totals : (ts us : List (Monomial S × ℤ)) → AreMonomials cmp ts → AreMonomials cmp us → ((f : Monomial S → ℤ) → total f ts ≡ total f us) → collect by ts ≡ collect by us
   same_by_totals ts us h g e = same_collected order ts us h g (λ n. coefficient_total n ts ∙ e (at n) ∙ sym (coefficient_total n us))

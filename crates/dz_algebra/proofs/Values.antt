@@ -19,10 +19,12 @@ module _ {R : Type 0} (r : Ring R) where
       let e : suc m + n ≡ suc (m + n) = omega arith in
       ap (λ k. copies r.arithmetic k a) e ∙ ap (r.sum a) (copies-add m n a) ∙ sym (r.sum_associates a _ _)
 
+  -- copies of a product
   pub copies_product : (m : ℕ) (a b : R) → copies r.arithmetic m (r.product a b) ≡ r.product (copies r.arithmetic m a) b
   copies_product zero a b = sym (zero_product r b)
   copies_product (suc m) a b = ap (r.sum (r.product a b)) (copies_product m a b) ∙ sym (sum_times r a _ b)
 
+  -- copies of copies
   pub copies-mul : (m n : ℕ) (a : R) → copies r.arithmetic (m * n) a ≡ copies r.arithmetic m (copies r.arithmetic n a)
   copies-mul zero n a = let e : zero * n ≡ zero = omega arith in ap (λ k. copies r.arithmetic k a) e
   copies-mul (suc m) n a =
@@ -33,6 +35,7 @@ module _ {R : Type 0} (r : Ring R) where
   difference : ℕ → ℕ → R
   difference m n = r.sum (copies r.arithmetic m r.one) (r.negative (copies r.arithmetic n r.one))
 
+  -- an element and its negative
   pub plus_minus : (a : R) → r.sum a (r.negative a) ≡ r.zero
   plus_minus a = r.sum_commutes a _ ∙ r.negative_is_inverse a
 
@@ -57,6 +60,7 @@ module _ {R : Type 0} (r : Ring R) where
   whole_in-sub : (m n : ℕ) → whole_in r.arithmetic (sub_ℕ m n) ≡ difference m n
   whole_in-sub m n = sub_by (ltb m n) m n refl
 
+  -- whole numbers add
   pub whole_in-+ℤ : (a b : ℤ) → whole_in r.arithmetic (a +ℤ b) ≡ r.sum (whole_in r.arithmetic a) (whole_in r.arithmetic b)
   unfolding difference
   whole_in-+ℤ (pos a) (pos b) = copies-add a b r.one
@@ -66,6 +70,7 @@ module _ {R : Type 0} (r : Ring R) where
       let e : suc (suc (a + b)) ≡ suc a + suc b = omega arith in
       ap r.negative (ap (λ k. copies r.arithmetic k r.one) e ∙ copies-add (suc a) (suc b) r.one) ∙ negative_sum r _ _
 
+  -- and change their sign
   pub whole_in-neg : (z : ℤ) → whole_in r.arithmetic (neg_ℤ z) ≡ r.negative (whole_in r.arithmetic z)
   whole_in-neg (pos zero) = sym (negative_zero r)
   whole_in-neg (pos (suc n)) = refl
@@ -77,6 +82,7 @@ module _ {R : Type 0} (r : Ring R) where
   product_negative : (a b : R) → r.product a (r.negative b) ≡ r.negative (r.product a b)
   product_negative a b = r.product_commutes a _ ∙ negative_product r b a ∙ ap r.negative (r.product_commutes b a)
 
+  -- and multiply
   pub whole_in-*ℤ : (a b : ℤ) → whole_in r.arithmetic (a *ℤ b) ≡ r.product (whole_in r.arithmetic a) (whole_in r.arithmetic b)
   whole_in-*ℤ (pos a) (pos b) = product_of_copies a b
   whole_in-*ℤ (pos a) (negsuc b) = whole_in-neg (pos (a * suc b)) ∙ ap r.negative (product_of_copies a (suc b)) ∙ sym (product_negative _ _)
@@ -88,6 +94,7 @@ module _ {R : Type 0} (r : Ring R) where
   whole_in_zero (pos (suc n)) e = cc
   whole_in_zero (negsuc n) e = cc
 
+  -- five factors in another order
   pub moved : (c k y m x : R) → r.product (r.product (r.product c k) (r.product y m)) x ≡ r.product c (r.product (r.product k (r.product y x)) m)
   moved c k y m x = simp (r.product_associates, r.product_commutes, product_swaps r)
 
@@ -97,6 +104,7 @@ module _ {R : Type 0} (r : Ring R) where
   power-add x (suc e) f = let g : suc e + f ≡ suc (e + f) = omega arith in ap (power r.arithmetic x) g ∙ ap (r.product x) (power-add x e f) ∙ sym (r.product_associates _ _ _)
 
   module _ {S : Type 0} (cmp : S → S → Ordering) (same : (s t : S) → cmp s t ≡ Equal → s ≡ t) (at : S → R) where
+    -- the value of a monomial times a power
     pub with_power_value : (s : S) (e : ℕ) (m : Monomial S) → monomial_value r.arithmetic at (with_power cmp s e m) ≡ r.product (power r.arithmetic (at s) e) (monomial_value r.arithmetic at m)
     with_power_value s e [] = refl
     with_power_value s e (p ∷ m) =
@@ -106,14 +114,17 @@ module _ {R : Type 0} (r : Ring R) where
           | Greater ↦ λ h. refl
         ] refl
 
+    -- the value of a product of monomials
     pub monomial_product_value : (m n : Monomial S) → monomial_value r.arithmetic at (monomial_product cmp m n) ≡ r.product (monomial_value r.arithmetic at m) (monomial_value r.arithmetic at n)
     monomial_product_value [] n = sym (r.one_is_neutral _)
     monomial_product_value (p ∷ m) n = with_power_value p.0 p.1 (monomial_product cmp m n) ∙ ap (r.product _) (monomial_product_value m n) ∙ sym (r.product_associates _ _ _)
 
+    -- the value of two lists of contributions
     pub value-append : (ts us : List (Monomial S × ℤ)) → value r.arithmetic at (ts ++ us) ≡ r.sum (value r.arithmetic at ts) (value r.arithmetic at us)
     value-append [] us = sym (r.zero_is_neutral _)
     value-append (t ∷ ts) us = ap (r.sum _) (value-append ts us) ∙ sym (r.sum_associates _ _ _)
 
+    -- the value of a term
     pub term : Monomial S → ℤ → R
     term m c = r.product (whole_in r.arithmetic c) (monomial_value r.arithmetic at m)
 
@@ -140,6 +151,7 @@ module _ {R : Type 0} (r : Ring R) where
             | Greater ↦ λ h. keep_value m c (t ∷ p)
           ] refl
 
+      -- contributions have the value of what they make
       pub collect_value : (ts : List (Monomial S × ℤ)) → value r.arithmetic at (collect by ts) ≡ value r.arithmetic at ts
       unfolding term
       collect_value [] = refl
@@ -151,11 +163,13 @@ module _ {R : Type 0} (r : Ring R) where
     term_times_value m c (t ∷ q) =
         ap₂ r.sum (ap₂ r.product (whole_in-*ℤ c t.1) (monomial_product_value m t.0) ∙ product_of_products r _ _ _ _) (term_times_value m c q) ∙ sym (r.product_distributes _ _ _)
 
+    -- the value of a product
     pub pairs_value : (p q : Polynomial S) → value r.arithmetic at (pairs cmp p q) ≡ r.product (value r.arithmetic at p) (value r.arithmetic at q)
     unfolding term
     pairs_value [] q = sym (zero_product r _)
     pairs_value (t ∷ p) q = value-append _ _ ∙ ap₂ r.sum (term_times_value t.0 t.1 q) (pairs_value p q) ∙ sym (sum_times r _ _ _)
 
+    -- the value of the negatives
     pub negated_value : (ts : List (Monomial S × ℤ)) → value r.arithmetic at (negated ts) ≡ r.negative (value r.arithmetic at ts)
     negated_value [] = sym (negative_zero r)
     negated_value (t ∷ ts) =

@@ -1,5 +1,5 @@
 -- Derivations (Kolchin): by Leibniz over each term and each symbol of it.
-use Rattle.std.specs.Prelude.{◌≡◌, ℕ, zero, suc, [], ◌∷◌, ◌++◌, ℤ, pos, ◌*ℤ◌}
+use Rattle.std.specs.Prelude.{⊤, ◌≡◌, ℕ, zero, suc, [], ◌∷◌, ◌++◌, ℤ, pos, ◌*ℤ◌}
 use Rattle.std.specs.declared.cmp.Ordering.{Ordering}
 use Rattle.std.specs.Ordering.{match_ordering}
 use Rattle.dz_algebra.specs.Monomial.{Monomial, with_power, monomial_cmp}
@@ -16,6 +16,12 @@ abbrev pub rate_polynomial : {S : Type 0} → Rate S → Polynomial S
 rate_polynomial constant = []
 rate_polynomial unit = polynomial_one
 rate_polynomial (symbol t) = symbol_polynomial t
+
+-- the symbol that a derivation makes, if it makes one, has a property
+abbrev pub RateIn : {S : Type 0} → (S → Type 0) → Rate S → Type 0
+RateIn P constant = ⊤
+RateIn P unit = ⊤
+RateIn P (symbol t) = P t
 
 -- the partial derivative by v: v itself goes to one, every other symbol to zero
 abbrev pub rate_by : {S : Type 0} → (S → S → Ordering) → S → S → Rate S
@@ -42,10 +48,13 @@ each_with_power cmp s e (t ∷ ts) = (with_power cmp s e t.0, t.1) ∷ each_with
 -- the exponent, at the monomial with the symbol taken once less times the symbol's derivative
 abbrev pub term_derivative : {S : Type 0} → (S → S → Ordering) → (S → Rate S) → Monomial S → ℤ → Contributions S
 term_derivative cmp rate [] c = []
-term_derivative cmp rate (p ∷ m) c = times_rate cmp (rate p.0) (once_less p.0 p.1 m) (c *ℤ pos p.1) ++ each_with_power cmp p.0 p.1 (term_derivative cmp rate m c)
+term_derivative cmp rate (p ∷ m) c =
+    times_rate cmp (rate p.0) (once_less p.0 p.1 m) (c *ℤ pos p.1)
+    ++ each_with_power cmp p.0 p.1 (term_derivative cmp rate m c)
 
 -- the contributions of a derivation, term by term
-abbrev pub derivative_contributions : {S : Type 0} → (S → S → Ordering) → (S → Rate S) → Polynomial S → Contributions S
+abbrev pub derivative_contributions : {S : Type 0} → (S → S → Ordering) → (S → Rate S) → Polynomial S
+    → Contributions S
 derivative_contributions cmp rate [] = []
 derivative_contributions cmp rate (t ∷ p) = term_derivative cmp rate t.0 t.1 ++ derivative_contributions cmp rate p
 

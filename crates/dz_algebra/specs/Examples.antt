@@ -1,5 +1,5 @@
 -- Worked examples, computed by hand: independents x and y, and one dependent u.
-use Rattle.std.specs.Prelude.{◌≡◌, ℕ, zero, suc, ◌+◌, ◌-◌, ◌^◌, ◌==◌, Bool, true, false, cond, [], ◌∷◌, ℤ, pos, neg_ℤ, Some, Err}
+use Rattle.std.specs.Prelude.{◌≡◌, ℕ, zero, suc, ◌+◌, ◌-◌, ◌^◌, ◌==◌, Bool, true, false, cond, [], ◌∷◌, ℤ, pos, neg_ℤ, Some, Ok, Err}
 use Rattle.std.specs.declared.cmp.Ordering.{Ordering}
 use Rattle.std.specs.declared.cmp.Ordering.TheVariants.{Less, Greater}
 use Rattle.std.specs.Ordering.{nat_cmp, ordering_then}
@@ -23,10 +23,12 @@ letter_cmp (independent i) (derivative k l) = Less
 letter_cmp (derivative i j) (independent k) = Greater
 letter_cmp (derivative i j) (derivative k l) = ordering_then (nat_cmp (i + j) (k + l)) (nat_cmp i k)
 
+-- u and its derivatives
 abbrev pub letter_is_derivative : Letter → Bool
 letter_is_derivative (independent j) = false
 letter_is_derivative (derivative i j) = true
 
+-- how often u is derived
 abbrev pub letter_order : Letter → ℕ
 letter_order (independent j) = 0
 letter_order (derivative i j) = i + j
@@ -37,24 +39,31 @@ letter_rate i (independent j) = cond (i == j) unit constant
 letter_rate zero (derivative i j) = symbol (derivative (suc i) j)
 letter_rate (suc n) (derivative i j) = symbol (derivative i (suc j))
 
+-- these symbols
 abbrev pub letters : Symbols Letter
 letters = record { cmp = letter_cmp; is_derivative = letter_is_derivative; total_order = letter_order; rate = letter_rate }
 
+-- the first independent
 abbrev pub x : Letter
 x = independent 0
 
+-- the dependent
 abbrev pub u : Letter
 u = derivative 0 0
 
+-- u derived by x
 abbrev pub u_x : Letter
 u_x = derivative 1 0
 
+-- u derived by y
 abbrev pub u_y : Letter
 u_y = derivative 0 1
 
+-- u derived twice by x
 abbrev pub u_xx : Letter
 u_xx = derivative 2 0
 
+-- a negative coefficient
 abbrev pub minus : ℕ → ℤ
 minus n = neg_ℤ (pos n)
 
@@ -82,6 +91,10 @@ line = ((u, 1) ∷ [], minus 6) ∷ ([], pos 4) ∷ []
 abbrev pub times_u : ℤ → Polynomial Letter
 times_u c = ((u, 1) ∷ [], c) ∷ []
 
+-- a power of one symbol
+abbrev pub one_power : Letter → ℕ → Polynomial Letter
+one_power s e = ((s, e) ∷ [], pos 1) ∷ []
+
 -- the greatest coefficient, 2^127 - 1
 abbrev pub most : ℕ
 most = 2 ^ 127 - 1
@@ -93,24 +106,28 @@ steep = ((u, 1) ∷ [], pos 1) ∷ ((x, 65536) ∷ [], pos 1) ∷ []
 -- derivation, leader, initial, separant and norm
 pub record DerivationExamples : Type 0 where
   -- the derivative of u[x]^2 - 4*u by x is 2*u[x]*u[x,x] - 4*u[x]
-  pub conic_by_x : polynomial_derivative letter_cmp (letter_rate 0) conic ≡ ((u_xx, 1) ∷ (u_x, 1) ∷ [], pos 2) ∷ ((u_x, 1) ∷ [], minus 4) ∷ []
+  pub conic_by_x : polynomial_derivative letter_cmp (letter_rate 0) conic
+      ≡ ((u_xx, 1) ∷ (u_x, 1) ∷ [], pos 2) ∷ ((u_x, 1) ∷ [], minus 4) ∷ []
   -- that of x*u by x is x*u[x] + u, and that by y is x*u[y]
-  pub mixed_by_x : polynomial_derivative letter_cmp (letter_rate 0) mixed ≡ ((u_x, 1) ∷ (x, 1) ∷ [], pos 1) ∷ ((u, 1) ∷ [], pos 1) ∷ []
+  pub mixed_by_x : polynomial_derivative letter_cmp (letter_rate 0) mixed
+      ≡ ((u_x, 1) ∷ (x, 1) ∷ [], pos 1) ∷ ((u, 1) ∷ [], pos 1) ∷ []
   pub mixed_by_y : polynomial_derivative letter_cmp (letter_rate 1) mixed ≡ ((u_y, 1) ∷ (x, 1) ∷ [], pos 1) ∷ []
   -- u[x]^2 - 4*u has the leader u[x], the initial 1 and the separant 2*u[x]
-  pub leader_of_conic : leader letters conic ≡ Some u_x
-  pub initial_of_conic : initial letter_cmp u_x conic ≡ ([], pos 1) ∷ []
-  pub separant_of_conic : separant letter_cmp u_x conic ≡ ((u_x, 1) ∷ [], pos 2) ∷ []
+  pub parts_of_conic : (leader letters conic ≡ Some u_x)
+      × (initial letter_cmp u_x conic ≡ ([], pos 1) ∷ [])
+      × (separant letter_cmp u_x conic ≡ ((u_x, 1) ∷ [], pos 2) ∷ [])
   -- the norm of -6*u + 4 is 3*u - 2
   pub norm_of_line : norm line ≡ ((u, 1) ∷ [], pos 3) ∷ ([], minus 2) ∷ []
 
 -- contributions, size and fitting
 pub record OperationExamples : Type 0 where
   -- the product of u + x and u - x has four contributions, and is u^2 - x^2
-  pub cancelling : (pairs letter_cmp plus_x minus_x ≡ ((u, 2) ∷ [], pos 1) ∷ ((u, 1) ∷ (x, 1) ∷ [], minus 1) ∷ ((u, 1) ∷ (x, 1) ∷ [], pos 1) ∷ ((x, 2) ∷ [], minus 1) ∷ [])
+  pub cancelling : (pairs letter_cmp plus_x minus_x ≡
+      ((u, 2) ∷ [], pos 1) ∷ ((u, 1) ∷ (x, 1) ∷ [], minus 1) ∷ ((u, 1) ∷ (x, 1) ∷ [], pos 1) ∷ ((x, 2) ∷ [], minus 1) ∷ [])
       × (polynomial_product letter_cmp plus_x minus_x ≡ ((u, 2) ∷ [], pos 1) ∷ ((x, 2) ∷ [], minus 1) ∷ [])
   -- its support has three monomials, with that at which the contributions cancel
-  pub kept : support letter_cmp (pairs letter_cmp plus_x minus_x) ≡ ((u, 2) ∷ []) ∷ ((u, 1) ∷ (x, 1) ∷ []) ∷ ((x, 2) ∷ []) ∷ []
+  pub kept : support letter_cmp (pairs letter_cmp plus_x minus_x)
+      ≡ ((u, 2) ∷ []) ∷ ((u, 1) ∷ (x, 1) ∷ []) ∷ ((x, 2) ∷ []) ∷ []
   -- the difference of u + x^65536 and x^65536 is u, and is large by the exponent
   pub steep_is_large : (polynomial_difference letter_cmp steep (((x, 65536) ∷ [], pos 1) ∷ []) ≡ times_u (pos 1))
       × (difference_answer letters steep (((x, 65536) ∷ [], pos 1) ∷ []) ≡ Err (large limits.Exponent))
@@ -119,3 +136,7 @@ pub record OperationExamples : Type 0 where
       × (sum_answer letters (times_u (pos most)) (times_u (minus 1)) ≡ Err wide)
   -- what is both large and wide is told as large
   pub large_first : sum_answer letters steep (times_u (pos most)) ≡ Err (large limits.Exponent)
+  -- 60 is the greatest total order, and 65,535 the greatest exponent; of two limits the first is told
+  pub order_limit : (sum_answer letters (one_power (derivative 60 0) 65535) [] ≡ Ok (one_power (derivative 60 0) 65535))
+      × (sum_answer letters (one_power (derivative 60 1) 65536) [] ≡ Err (large limits.Order))
+  pub exponent_limit : sum_answer letters (one_power u 65536) [] ≡ Err (large limits.Exponent)

@@ -1,6 +1,7 @@
 -- Monomials (Kolchin): finite maps from symbols to positive exponents, as lists in which symbols fall.
-use Rattle.std.specs.Prelude.{⊤, ◌<◌, ℕ, ◌+◌, List, [], ◌∷◌}
+use Rattle.std.specs.Prelude.{◌≡◌, ⊤, ◌<◌, ℕ, ◌+◌, List, [], ◌∷◌}
 use Rattle.std.specs.declared.cmp.Ordering.{Ordering}
+use Rattle.std.specs.declared.cmp.Ordering.TheVariants.{Greater}
 use Rattle.std.specs.Ordering.{nat_cmp, match_ordering, then_cmp, on}
 use Rattle.std.specs.Cmp.Lexicographic.{slice_cmp}
 use Rattle.dz_algebra.specs.Order.{IsAbove}
@@ -27,6 +28,11 @@ monomial_cmp cmp = slice_cmp (then_cmp (on (λ p. p.0) cmp) (on (λ p. p.1) nat_
 abbrev pub exponent : {S : Type 0} → (S → S → Ordering) → S → Monomial S → ℕ
 exponent cmp s [] = 0
 exponent cmp s (p ∷ m) = match_ordering (cmp s p.0) (exponent cmp s m) (p.1 + exponent cmp s m) (exponent cmp s m)
+
+-- s is the greatest symbol at which the exponents of m and n differ, and m has the larger one
+abbrev pub IsLarger : {S : Type 0} → (S → S → Ordering) → Monomial S → Monomial S → S → Type 0
+IsLarger {S} cmp m n s =
+    (exponent cmp s n < exponent cmp s m) × ((t : S) → cmp t s ≡ Greater → exponent cmp t m ≡ exponent cmp t n)
 
 -- a monomial times s^e
 abbrev pub with_power : {S : Type 0} → (S → S → Ordering) → S → ℕ → Monomial S → Monomial S

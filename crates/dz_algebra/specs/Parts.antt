@@ -15,7 +15,8 @@ degree cmp s (t ∷ p) = max (exponent cmp s t.0) (degree cmp s p)
 -- the coefficient of s^k: the terms with that power of s, each without s
 abbrev pub coefficient_of : {S : Type 0} → (S → S → Ordering) → S → ℕ → Polynomial S → Polynomial S
 coefficient_of cmp s k [] = []
-coefficient_of cmp s k (t ∷ p) = cond (exponent cmp s t.0 == k) ((without cmp s t.0, t.1) ∷ coefficient_of cmp s k p) (coefficient_of cmp s k p)
+coefficient_of cmp s k (t ∷ p) =
+    cond (exponent cmp s t.0 == k) ((without cmp s t.0, t.1) ∷ coefficient_of cmp s k p) (coefficient_of cmp s k p)
 
 -- a derivative occurs in the monomial
 abbrev pub has_derivative : {S : Type 0} → Symbols S → Monomial S → Bool

@@ -39,7 +39,8 @@ abbrev pub keep : {S : Type 0} → Monomial S → ℤ → Polynomial S → Polyn
 keep m c p = cond (whole_is_zero c) p ((m, c) ∷ p)
 
 -- a polynomial and one more contribution, added at its monomial
-abbrev pub add_term : {S : Type 0} → (Monomial S → Monomial S → Ordering) → Monomial S → ℤ → Polynomial S → Polynomial S
+abbrev pub add_term : {S : Type 0} → (Monomial S → Monomial S → Ordering) → Monomial S → ℤ → Polynomial S
+    → Polynomial S
 add_term by m c [] = keep m c []
 add_term by m c (t ∷ p) = match_ordering (by m t.0) (t ∷ add_term by m c p) (keep m (c +ℤ t.1) p) (keep m c (t ∷ p))
 

@@ -1,5 +1,5 @@
 -- When an operation on polynomials is refused (this project): its size first, then its coefficients.
-use Rattle.std.specs.Prelude.{ℕ, nat_lt, Bool, true, false, cond, List, [], ◌∷◌, ◌++◌, map, length, Option, Some, None, Result, Ok, Err}
+use Rattle.std.specs.Prelude.{◌≡◌, ℕ, nat_lt, Bool, true, false, cond, List, [], ◌∷◌, ◌++◌, map, length, Option, Some, None, Result, Ok, Err}
 use Rattle.std.specs.declared.cmp.Ordering.{Ordering}
 use Rattle.std.specs.List.{list_any}
 use Rattle.std.specs.Ordering.{match_ordering}
@@ -45,6 +45,10 @@ limit_of g ms =
     (cond (has_high_exponent ms) (Some limits.Exponent)
     (cond (nat_lt 64 (length (symbols g.cmp ms))) (Some limits.Symbols)
     (cond (nat_lt 4096 (length ms)) (Some limits.Terms) None)))
+
+-- the operation with these contributions is small: its support passes no limit
+abbrev pub IsSmall : {S : Type 0} → Symbols S → Contributions S → Type 0
+IsSmall g ts = limit_of g (support g.cmp ts) ≡ None
 
 -- at each monomial of the support the absolute values of the contributions add up to at most 2^127 - 1
 unfoldable pub fits : {S : Type 0} → (S → S → Ordering) → Contributions S → Bool

@@ -39,9 +39,11 @@ up_mul a b = (product_is a b).0
 down_mul : (a b : ℤ) → down (a *ℤ b) ≡ up a * down b + down a * up b
 down_mul a b = (product_is a b).1
 
+-- products associate
 pub *ℤ_assoc : (a b c : ℤ) → (a *ℤ b) *ℤ c ≡ a *ℤ (b *ℤ c)
 *ℤ_assoc a b c = same_in _ _ (simp (up_mul, down_mul) (omega arith))
 
+-- products distribute over sums
 pub *ℤ-+ℤ : (a b c : ℤ) → a *ℤ (b +ℤ c) ≡ a *ℤ b +ℤ a *ℤ c
 *ℤ-+ℤ a b c =
     let e : up a * (up (b +ℤ c) + down b + down c) ≡ up a * (down (b +ℤ c) + up b + up c) = ap (λ x. up a * x) (sum_is_lem b c) in
@@ -52,6 +54,7 @@ pub *ℤ-+ℤ : (a b c : ℤ) → a *ℤ (b +ℤ c) ≡ a *ℤ b +ℤ a *ℤ c
 one-*ℤ : (a : ℤ) → pos 1 *ℤ a ≡ a
 one-*ℤ a = omega (arith, ints)
 
+-- a product is zero only where a factor is
 pub no_divisors : (a b : ℤ) → a *ℤ b ≡ pos 0 → (a ≡ pos 0) ⊎ (b ≡ pos 0)
 no_divisors (pos zero) b e = inl refl
 no_divisors (pos (suc m)) (pos zero) e = inr refl

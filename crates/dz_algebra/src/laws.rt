@@ -12,6 +12,7 @@ ghost use Rattle.dz_algebra.specs.Symbols.{Symbols};
 ghost use Rattle.dz_algebra.specs.Value.{value};
 ghost use Rattle.dz_algebra.specs.Examples.{DerivationExamples, OperationExamples};
 ghost use Rattle.dz_algebra.specs.Laws.{
+  MonomialLaws,
   CoefficientLaws,
   ClosureLaws,
   RingLaws,
@@ -19,11 +20,19 @@ ghost use Rattle.dz_algebra.specs.Laws.{
   DerivationsCommute,
   PowerLaws,
   LeaderLaws,
+  SymbolLaws,
   NormLaws,
   OperationLaws,
   ValueLaws,
-  AreIndependent,
+  HaveDualDerivations,
 };
+
+/// The order of monomials is total, looks at the greatest symbol at which two monomials differ, and
+/// is kept by multiplying.
+#[tactic(auto, using(crate::proofs::LawProofs::monomial_laws))]
+pub fn monomials_are_ordered<S>()
+    ensures { (cmp : S → S → Ordering) → IsOrder cmp → MonomialLaws cmp }
+{}
 
 /// A polynomial is the finite map of its coefficients, and contributions make the polynomial
 /// whose coefficients are their sums.
@@ -47,7 +56,7 @@ pub fn polynomials_are_a_ring<S>()
 /// A derivation is additive and obeys Leibniz' rule.
 #[tactic(auto, using(crate::proofs::LawProofs::derivation_laws))]
 pub fn derivation_obeys_leibniz<S>()
-    ensures { (cmp : S → S → Ordering) → IsOrder cmp → (rate : S → Rate S) → DerivationLaws cmp rate }
+    ensures { (cmp : S → S → Ordering) (rate : S → Rate S) → IsOrder cmp → DerivationLaws cmp rate }
 {}
 
 /// Two derivations commute, if they do at each symbol.
@@ -68,6 +77,12 @@ pub fn leader_is_greatest<S>()
     ensures { (g : Symbols S) → IsOrder g.cmp → LeaderLaws g }
 {}
 
+/// The operations bring in no symbols.
+#[tactic(auto, using(crate::proofs::LawProofs::symbol_laws))]
+pub fn operations_keep_symbols<S>()
+    ensures { (cmp : S → S → Ordering) (test : S → Bool) → SymbolLaws cmp test }
+{}
+
 /// The norm of a polynomial is one of its multiples, and the same for all of them.
 #[tactic(auto, using(crate::proofs::LawProofs::norm_laws))]
 pub fn norm_is_unique<S>()
@@ -80,11 +95,16 @@ pub fn operations_answer_polynomials<S>()
     ensures { (g : Symbols S) → IsOrder g.cmp → OperationLaws g }
 {}
 
-/// The definitions answer worked examples as they were computed by hand.
-#[tactic(auto, using(crate::proofs::ExampleProofs::derivation_examples, crate::proofs::ExampleProofs::operation_examples,))]
-pub fn worked_examples()
-    ensures derivation { DerivationExamples }
-    ensures operation { OperationExamples }
+/// Derivatives, parts and norms of worked examples are as they were computed by hand.
+#[tactic(auto, using(crate::proofs::ExampleProofs::derivation_examples))]
+pub fn worked_derivations()
+    ensures { DerivationExamples }
+{}
+
+/// Contributions, supports and answers of worked operations are as they were computed by hand.
+#[tactic(auto, using(crate::proofs::ExampleProofs::operation_examples))]
+pub fn worked_operations()
+    ensures { OperationExamples }
 {}
 
 /// The value of a sum is the sum of the values, and so for products and derivatives.
@@ -99,7 +119,7 @@ pub fn values_keep_operations<S, E>()
 pub fn nonzero_never_vanishes<S, E>()
     ensures { (cmp : S → S → Ordering) → IsOrder cmp → (o : Operations E) → DomainLaws o
         → (at : S → E) → ((s : S) → IsTrue (o.is_value (at s)))
-        → (test : S → Bool) (place : S → ℕ) → AreIndependent cmp o at test place
+        → (test : S → Bool) (place : S → ℕ) → HaveDualDerivations cmp o at test place
         → (p : Polynomial S) → IsPolynomial cmp p → PolynomialIn (λ s. IsTrue (test s)) p
         → p ≢ []
         → value o.arithmetic at p ≢ o.zero }
