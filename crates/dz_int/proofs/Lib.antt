@@ -1,0 +1,4 @@
+pub mod Euclidean
+pub mod Coprime
+pub mod Contents
+pub mod Signs
