@@ -6,7 +6,9 @@
 #![tactic(auto)]
 
 mod divisors;
+mod fractions;
 mod majorants;
 
 pub use divisors::content;
+pub use fractions::Frac;
 pub use majorants::Majorant;
