@@ -99,3 +99,18 @@ neg_signed true (suc n) = refl
 
 pub neg_by_sign : (a : ℤ) → neg_ℤ a ≡ signed (not (is_negative a)) (unsigned_abs a)
 neg_by_sign a = ap neg_ℤ (by_sign a) ∙ neg_signed (is_negative a) (unsigned_abs a)
+
+-- ---- a positive factor is cancelled, and two factors change places
+pub cancel_pos : (x w : ℤ) (y : ℕ) → 0 < y → x *ℤ pos y ≡ w *ℤ pos y → x ≡ w
+cancel_pos x w y p e =
+    let u : up x * y + down x * 0 ≡ up w * y + down w * 0 = sym (up_mul x (pos y)) ∙ ap up e ∙ up_mul w (pos y) in
+    let d : up x * 0 + down x * y ≡ up w * 0 + down w * y = sym (down_mul x (pos y)) ∙ ap down e ∙ down_mul w (pos y) in
+    let a : up x ≡ up w = cancelled (up x) (up w) y p (omega arith) in
+    let b : down x ≡ down w = cancelled (down x) (down w) y p (omega arith) in
+    same_in x w (omega arith)
+  where
+    cancelled : (m n y : ℕ) → 0 < y → m * y ≡ n * y → m ≡ n
+    cancelled m n y p e = grind arith
+
+pub factors_swap : (a b c : ℤ) → (a *ℤ b) *ℤ c ≡ (a *ℤ c) *ℤ b
+factors_swap a b c = *ℤ_assoc a b c ∙ ap (λ x. a *ℤ x) (*ℤ_comm b c) ∙ sym (*ℤ_assoc a c b)

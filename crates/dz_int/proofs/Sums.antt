@@ -1,15 +1,15 @@
 -- The sum of two fractions over their least common denominator.
-use Rattle.std.proofs.Common.{◌≡◌, ◌<◌, ◌≤◌, ◌+◌, ◌*◌, ◌/◌, ◌⊎◌, inl, inr, ◌∙◌, ℕ, ℤ, pos, ◌+ℤ◌, ◌*ℤ◌, unsigned_abs, refl, sym, ap, ap₂, subst, arith}
-use Rattle.std.specs.Int.{IsGcd, ◌∣◌}
+use Rattle.std.proofs.Common.{◌≡◌, ◌<◌, ◌≤◌, ◌+◌, ◌*◌, ◌/◌, ◌⊎◌, inl, inr, ◌∙◌, ℕ, Bool, ℤ, pos, ◌+ℤ◌, ◌*ℤ◌, unsigned_abs, refl, sym, ap, ap₂, subst, arith}
+use Rattle.std.specs.Int.{IsGcd, ◌∣◌, is_negative}
 use Rattle.std.proofs.Math.IntN.{pos-*ℤ-pos}
 use Rattle.std.proofs.lemmas.Nat.Gcd.{same_from_IsGcd}
-use Rattle.dz_int.specs.Numbers.{greatest}
-use Rattle.dz_int.specs.Fractions.{Fraction, SumFits, SumPasses, sum_majorant, common_denominator}
+use Rattle.dz_int.specs.Numbers.{greatest, signed}
+use Rattle.dz_int.specs.Fractions.{Fraction, HasValue, SumFits, SumPasses, sum_majorant, common_denominator}
 use Rattle.dz_int.specs.Euclid.{gcd, AreSumParts}
 use Rattle.dz_int.proofs.Coprime.{gcd_is}
 use Rattle.dz_int.proofs.Cross.{quotient, quotient_positive}
 use Rattle.dz_int.proofs.Reduced.{common_positive}
-use Rattle.dz_int.proofs.Signs.{*ℤ_assoc, +ℤ-*ℤ, abs_of_sum_of_products}
+use Rattle.dz_int.proofs.Signs.{*ℤ_assoc, +ℤ-*ℤ, abs_of_sum_of_products, by_sign, cancel_pos, factors_swap}
 
 pub divisor_is_positive : (b d g : ℕ) → 0 < d → g ≡ gcd b d → 0 < g
 divisor_is_positive = common_positive
@@ -60,3 +60,16 @@ are_sum_parts a c z b d g y h i e f j k l =
 
     bounded : {m n k : ℕ} → m ≤ n → n ≤ k → m ≤ k
     bounded p q = omega arith
+
+-- the sum over the common denominator, reduced
+pub sum_value : (f h s : Fraction) (z : ℤ) (y m : ℕ) (b : Bool) → AreSumParts f h z y → m ≡ unsigned_abs z → b ≡ is_negative z → HasValue s (signed b m) y → HasValue s (f.numerator *ℤ pos h.denominator +ℤ h.numerator *ℤ pos f.denominator) (f.denominator * h.denominator)
+sum_value f h s z y m b parts e g v =
+    let n : ℤ = f.numerator *ℤ pos h.denominator +ℤ h.numerator *ℤ pos f.denominator in
+    let d : ℤ = pos (f.denominator * h.denominator) in
+    let k : s.numerator *ℤ pos y ≡ z *ℤ pos s.denominator = v ∙ ap (λ x. x *ℤ pos s.denominator) (ap₂ signed g e ∙ sym (by_sign z)) in
+    cancel_pos (s.numerator *ℤ d) (n *ℤ pos s.denominator) y parts.positive
+    (factors_swap s.numerator d (pos y)
+    ∙ ap (λ x. x *ℤ d) k
+    ∙ factors_swap z (pos s.denominator) d
+    ∙ ap (λ x. x *ℤ pos s.denominator) parts.cross
+    ∙ factors_swap n (pos y) (pos s.denominator))
