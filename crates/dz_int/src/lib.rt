@@ -8,6 +8,8 @@
 mod divisors;
 mod fractions;
 mod majorants;
+#[cfg(test)]
+mod tests;
 
 pub use divisors::content;
 pub use fractions::Frac;
