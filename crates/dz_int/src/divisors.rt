@@ -40,10 +40,7 @@ pub(crate) fn divisor(a: u128, b: u128) -> u128
     x
 }
 
-#[tactic(auto, using(
-    crate::proofs::Contents::content_of_none,
-    crate::proofs::Contents::content_of_all,
-))]
+#[tactic(auto, using(crate::proofs::Contents::content_of_none, crate::proofs::Contents::content_of_all,))]
 /// The greatest common divisor of the absolute values; 0 for none or only zeros.
 pub fn content(values: &[i128]) -> u128
     ensures { IsContent values.now result }
