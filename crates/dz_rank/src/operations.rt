@@ -20,13 +20,13 @@ pub(crate) fn order(operator: Operator) -> u16
     u16::from(i) + u16::from(j) + u16::from(k) + u16::from(l)
 }
 
-#[tactic(auto, using(crate::proofs::Exponents::sum_of_exponent_sums))]
 /// The product of two operators, where its total order is at most 60.
+#[tactic(auto, using(crate::proofs::Exponents::sum_of_exponent_sums))]
 fn product(first: Operator, second: Operator) -> Option<Operator>
     ensures { MatchOption result
         (60 < sum (exponent_sums first.counts second.counts))
         (λ product. (product.counts ≡ exponent_sums first.counts second.counts)
-            × (sum product.counts ≤ 60)) }
+        × (sum product.counts ≤ 60)) }
 {
     if GREATEST_ORDER < order(first) + order(second) {
         return None;
