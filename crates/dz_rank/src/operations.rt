@@ -45,19 +45,17 @@ pub fn raise(symbol: Symbol, operator: Operator) -> Option<Symbol>
         (60 < total_order (derivative_by operator symbol))
         (λ raised. (raised ≡ derivative_by operator symbol) × (total_order raised ≤ 60)) }
 {
-    match symbol {
-        Symbol::Independent(_) => unreachable!(),
-        Symbol::Derivative {
-            dependent,
-            operator: first,
-        } => match product(first, operator) {
-            Some(operator) => Some(Symbol::Derivative {
-                dependent,
-                operator,
-            }),
-            None => None,
-        },
-    }
+    let Symbol::Derivative {
+        dependent,
+        operator: first,
+    } = symbol
+    else {
+        unreachable!()
+    };
+    Some(Symbol::Derivative {
+        dependent,
+        operator: product(first, operator)?,
+    })
 }
 
 /// How often each derivation is taken from `divisor` to `multiple`; `None` where one is taken less.
