@@ -1,0 +1,30 @@
+-- Books that only grow.
+use Rattle.std.proofs.Common.{◌≡◌, ◌<◌, ℕ, zero, suc, List, [], ◌∷◌, ◌++◌, length, take, arith, refl}
+use Rattle.std.specs.Prelude.{slice_get, Some, map}
+use Rattle.std.proofs.lemmas.List.{length-append, take_at}
+use Rattle.dz_algebra.specs.Polynomial.{Polynomial}
+use Rattle.dz_rank.specs.declared.symbols.Symbol.{Symbol}
+use Rattle.dz_rank.specs.Rankings.{RankingValue}
+use Rattle.std.specs.Prelude.{All}
+use Rattle.std.proofs.lemmas.List.Elements.{All-map, All-weaker}
+use Rattle.dz_poly.specs.declared.entry.Entry.{Entry}
+use Rattle.dz_poly.specs.Books.{IsKept, IsBook, IsKeepable}
+use Rattle.dz_poly.specs.Entries.{IsEntry}
+
+slice_get-append : {X : Type 0} (xs ys : List X) (p : ℕ) → p < length xs → slice_get (xs ++ ys) p ≡ slice_get xs p
+slice_get-append [] ys p h = absurd (omega arith)
+slice_get-append (x ∷ xs) ys zero h = refl
+slice_get-append (x ∷ xs) ys (suc p) h = slice_get-append xs ys p (omega arith)
+
+-- further polynomials behind those of a book
+pub IsKept-append : (r : RankingValue) (old more : List (Polynomial Symbol)) → IsKept (record { ranking = r; polynomials = old }) (record { ranking = r; polynomials = old ++ more })
+IsKept-append r old more = record { ranking = refl; each = λ p h. slice_get-append old more p h; later = omega (arith, length-append old more); front = take_at old more (length old) refl }
+
+-- what is put behind a list stands at its former length
+pub last_get : {X Y : Type 0} (f : X → Y) (xs : List X) (x : X) → slice_get (map f (xs ++ x ∷ [])) (length xs) ≡ Some (f x)
+last_get f [] x = refl
+last_get f (y ∷ xs) x = last_get f xs x
+
+-- entries make a book
+pub book_of : (r : RankingValue) (es : List Entry) → All (λ e. IsEntry r e.terms.items e.degrees.items) es → IsBook (record { ranking = r; polynomials = map (λ e. e.terms.items) es })
+book_of r es h = record { each = All-map (IsKeepable r) (λ e. e.terms.items) es (All-weaker (λ e. IsEntry r e.terms.items e.degrees.items) (λ e. IsKeepable r e.terms.items) (λ e g. g.keepable) es h) }

@@ -1,0 +1,11 @@
+pub mod SymbolLaws
+pub mod MonomialPasses
+pub mod Merging
+pub mod Amounts
+pub mod Multiples
+pub mod Support
+pub mod Operations
+pub mod Places
+pub mod Finishing
+pub mod Summing
+pub mod Books

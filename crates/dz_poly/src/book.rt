@@ -1,0 +1,107 @@
+//! Books of polynomials.
+
+ghost use Rattle.std.specs.Prelude.{◌≡◌};
+
+use crate::entry::Entry;
+use dz_rank::Ranking;
+use std::alloc::{AllocError, Global};
+use std::marker::Model;
+
+/// The name of a polynomial in a book: its number, from 0.
+#[derive(Clone, Copy, Debug, PartialEq, Eq)]
+pub struct Poly {
+    index: usize,
+}
+
+impl Model for Poly {
+    ghost use Rattle.std.specs.Prelude.{ℕ};
+
+    ghost Value = { ℕ };
+
+    ghost view = { λ p. p.index };
+
+    ghost inverse = { λ n. record { index = n } };
+}
+
+/// A ranking, and polynomials under it.
+///
+/// Every polynomial in a book is canonical under the ranking, its symbols belong to the signature,
+/// its coefficients are between `-(2^127 - 1)` and `2^127 - 1`, and it has at most 4,096 terms and
+/// 64 symbols, total orders up to 60 and exponents up to 65,535.
+#[derive(Drop)]
+pub struct Book {
+    alloc: Global,
+    ranking: Ranking,
+    entries: Vec<Entry>,
+}
+
+impl Model for Book {
+    ghost use Rattle.std.specs.Prelude.{map, All};
+    ghost use Rattle.dz_poly.specs.Books.{BookValue};
+    ghost use Rattle.dz_poly.specs.Entries.{IsEntry};
+
+    ghost Value = { BookValue };
+
+    ghost view = { λ b. record { ranking = b.ranking;
+        polynomials = map (λ e. e.terms.items) b.entries.items } };
+
+    ghost invariant = { λ b.
+        All (λ e. IsEntry b.ranking e.terms.items e.degrees.items) b.entries.items };
+}
+
+impl Book {
+    ghost use Rattle.std.specs.Prelude.{◌≡◌, [], IfOk, OnOk, OnErr};
+    ghost use Rattle.dz_poly.specs.Books.{BookValue, IsBook, IsKept, Lives, Means, polynomial};
+    ghost use Rattle.dz_poly.specs.Entries.{IsEntry};
+
+    /// A book without polynomials.
+    pub fn new(alloc: Global, ranking: Ranking) -> Book
+        ensures { result ≡ record { ranking = ranking; polynomials = [] } }
+    {
+        Book {
+            alloc,
+            ranking,
+            entries: Vec::new(alloc),
+        }
+    }
+
+    /// The ranking that was handed to `new`.
+    pub fn ranking(&self) -> &Ranking
+        ensures { result.now ≡ self.now.ranking }
+    {
+        &self.ranking
+    }
+
+    /// What is true of every book, for contracts: the call does nothing when it runs.
+    pub fn opened(&self)
+        ensures { IsBook self.now }
+    {
+        let _ = &self.entries;
+    }
+
+    pub(crate) fn allocator(&self) -> Global {
+        self.alloc
+    }
+
+    /// What the book keeps of a polynomial.
+    pub(crate) fn entry(&self, p: Poly) -> &Entry
+        requires { Lives self.now p }
+        ensures means { Means self.now p result.now.terms.items }
+        ensures value { result.now.terms.items ≡ polynomial self.now p }
+        ensures entry { IsEntry self.now.ranking result.now.terms.items result.now.degrees.items }
+    {
+        &self.entries[p.index]
+    }
+
+    /// Puts a polynomial behind the others.
+    pub(crate) fn keep(&mut self, entry: Entry) -> Result<Poly, AllocError>
+        requires { IsEntry self.old.ranking entry.terms.items entry.degrees.items }
+        ensures ok { IfOk result (λ p. Means self.new p entry.terms.items) }
+        ensures kept { OnOk result (IsKept self.old self.new) }
+        ensures refused { OnErr result (self.new ≡ self.old) }
+    {
+        let index = self.entries.len();
+        self.entries.push(entry)?;
+        Ok(Poly { index })
+    }
+}
