@@ -26,3 +26,4 @@ pub mod Coefficients
 pub mod SameAmounts
 pub mod OperationOrder
 pub mod Inside
+pub mod SymbolLists

@@ -4,10 +4,12 @@
 //! can say what a system of differential equations means: what holds in every domain, at every point.
 #![tactic(auto)]
 
+mod adjoin;
 mod domain;
 mod point;
 mod whole;
 
+pub use adjoin::{Adjoin, Coefficients};
 pub use domain::Domain;
 pub use point::Point;
 pub use whole::Whole;
