@@ -10,6 +10,7 @@ use Rattle.dz_algebra.proofs.DomainValues.{derivative_of_zero}
 use Rattle.dz_rank.specs.declared.symbols.Symbol.{Symbol}
 use Rattle.dz_rank.specs.declared.symbols.Symbol.TheVariants.{Independent, Derivative}
 use Rattle.dz_rank.specs.Symbols.{raised, raised_symbol}
+use Rattle.dz_poly.specs.Ranked.{symbol_rate}
 use Rattle.dz_domain.specs.Point.{Coordinates, IsPoint, derived, derived_from, symbol_value}
 
 take_nothing : (n : ℕ) → take {A = ℕ} n [] ≡ []
@@ -23,11 +24,6 @@ take_raised (suc n) zero [] h = ap (λ r. 1 ∷ r) (take_nothing n)
 take_raised (suc n) zero (k ∷ ks) h = refl
 take_raised (suc n) (suc i) [] h = ap (λ r. 0 ∷ r) (take_raised n i [] (omega arith) ∙ ap (raised i) (take_nothing n))
 take_raised (suc n) (suc i) (k ∷ ks) h = ap (λ r. k ∷ r) (take_raised n i ks (omega arith))
-
--- what the i-th derivation makes of a symbol
-abbrev pub point_rate : ℕ → Symbol → Rate Symbol
-point_rate i (Independent j) = cond (i == j) unit constant
-point_rate i (Derivative u t) = symbol (raised_symbol i (Derivative u t))
 
 module _ {E : Type 0} {o : Operations E} (laws : DomainLaws o) where
   -- a derivation taken any number of times gives values, and so do several
@@ -85,7 +81,8 @@ module _ {E : Type 0} {o : Operations E} (laws : DomainLaws o) where
     cond_rate true = refl
     cond_rate false = refl
 
-    pub rate_of_symbol : (i : ℕ) → i < length p.independents → (s : Symbol) → o.derivative i (symbol_value o p s) ≡ rate_value o.arithmetic (symbol_value o p) (point_rate i s)
+    pub rate_of_symbol : (i : ℕ) → i < length p.independents → (s : Symbol) → o.derivative i (symbol_value o p s) ≡ rate_value o.arithmetic (symbol_value o p) (symbol_rate i s)
+    unfolding symbol_rate
     rate_of_symbol i h (Independent j) =
         elim (ltb j (length p.independents)) as (λ b. ltb j (length p.independents) ≡ b → o.derivative i (get_or p.independents j o.zero) ≡ rate_value o.arithmetic (symbol_value o p) (cond (i == j) unit constant)) [
           | true ↦ λ g. point.rates i j (omega (arith, point.enough)) (omega (arith, ltb-true j (length p.independents), g)) ∙ cond_rate (i == j)

@@ -50,4 +50,11 @@ impl<D: Domain> Point<D> {
             dependents: Vec::new(alloc),
         }
     }
+
+    /// What is true of every point, for contracts: the call does nothing when it runs.
+    pub fn is_point(&self)
+        ensures { IsPoint D.operations self.now }
+    {
+        let _ = &self.domain;
+    }
 }
