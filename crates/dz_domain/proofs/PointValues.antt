@@ -9,11 +9,12 @@ use Rattle.std.specs.Cmp.{tied_itself}
 use Rattle.dz_algebra.specs.Domain.{Operations, DomainLaws}
 use Rattle.dz_algebra.specs.Order.{IsOrder}
 use Rattle.dz_algebra.specs.Monomial.{Monomial, MonomialIn}
-use Rattle.dz_algebra.specs.Polynomial.{Polynomial, IsPolynomial, PolynomialIn, polynomial_sum, polynomial_product}
-use Rattle.dz_algebra.specs.Derivation.{polynomial_derivative}
+use Rattle.dz_algebra.specs.Polynomial.{Polynomial, IsPolynomial, PolynomialIn, polynomial_one, symbol_polynomial, polynomial_sum, polynomial_product}
+use Rattle.dz_algebra.specs.Derivation.{Rate, constant, unit, rate_polynomial, polynomial_derivative}
 use Rattle.dz_algebra.specs.Parts.{has_derivative, is_ground}
 use Rattle.dz_algebra.specs.Laws.{ValueLaws, HaveDualDerivations}
-use Rattle.dz_algebra.proofs.LawProofs.{value_laws, nonzero_laws}
+use Rattle.dz_algebra.proofs.LawProofs.{derivation_laws, value_laws, nonzero_laws}
+use Rattle.dz_algebra.proofs.PolynomialRing.{one_is}
 use Rattle.dz_rank.specs.declared.rankings.Signature.{Signature}
 use Rattle.dz_rank.specs.declared.symbols.Symbol.{Symbol}
 use Rattle.dz_rank.specs.declared.symbols.Symbol.TheVariants.{Independent, Derivative}
@@ -103,3 +104,24 @@ module _ (r : RankingValue) where
       pub ground_value : (a : Polynomial Symbol) → IsPolynomial (ranking_cmp r) a → PolynomialIn (BelongsTo r.signature) a → IsTrue (is_ground (symbols_under r) a) → a ≢ [] → value_at o p a ≢ o.zero
       ground_value a canonical belongs no_derivative n =
           nonzero_laws (ranking_cmp r) (ranking_order r) o laws (symbol_value o p) (symbol_is_value laws point) (is_independent r.signature.independents) independent_place dual_derivations a canonical (ground_in_independents a belongs no_derivative) n
+
+      -- of polynomial one, with what the i-th derivation makes of the i-th independent
+      derivative_of_independent : (i : ℕ) → polynomial_derivative (ranking_cmp r) (symbol_rate i) (symbol_polynomial (Independent i)) ≡ polynomial_one
+      unfolding symbol_rate
+      derivative_of_independent i =
+          (derivation_laws (ranking_cmp r) (symbol_rate i) (ranking_order r)).of_symbol (Independent i)
+          ∙ ap (λ b. rate_polynomial (cond b unit constant)) (eq-eqb i i refl)
+
+      one_value : value_at o p polynomial_one ≢ o.zero
+      unfolding polynomial_one
+      one_value = ground_value polynomial_one (one_is (ranking_order r)) (tt, tt) refl (λ e. cc)
+
+      -- a derivation of polynomials whose values are derivatives of values takes no independent to zero
+      pub independent_not_constant : (rate : Symbol → Rate Symbol) (i : ℕ) → i < r.signature.independents
+          → ((a : Polynomial Symbol) → value_at o p (polynomial_derivative (ranking_cmp r) rate a) ≡ o.derivative i (value_at o p a))
+          → rate (Independent i) ≢ constant
+      independent_not_constant rate i h law e =
+          let x : Polynomial Symbol = symbol_polynomial (Independent i) in
+          one_value (ap (value_at o p) (sym (derivative_of_independent i)) ∙ value_of_derivative i h x ∙ sym (law x)
+          ∙ ap (value_at o p) ((derivation_laws (ranking_cmp r) rate (ranking_order r)).of_symbol (Independent i))
+          ∙ ap (λ q. value_at o p (rate_polynomial q)) e)

@@ -27,6 +27,13 @@ impl<E> Coefficients<E> {
     {
         Coefficients { list: items }
     }
+
+    /// The coefficients, from the constant upwards.
+    pub fn items(&self) -> &[E]
+        ensures { result.now ≡ self.now }
+    {
+        &self.list
+    }
 }
 
 /// The polynomials in one new variable over the values of a domain.

@@ -2,9 +2,11 @@
 //! signature. The calls do nothing when they run: each states a law for contracts above.
 
 ghost use Rattle.std.specs.Prelude.{◌≡◌, ◌≢◌, ◌<◌, [], IsTrue};
-ghost use Rattle.dz_algebra.specs.Derivation.{polynomial_derivative};
+ghost use Rattle.dz_algebra.specs.Derivation.{Rate, constant, polynomial_derivative};
 ghost use Rattle.dz_algebra.specs.Parts.{is_ground};
-ghost use Rattle.dz_algebra.specs.Polynomial.{polynomial_sum, polynomial_product};
+ghost use Rattle.dz_algebra.specs.Polynomial.{Polynomial, polynomial_sum, polynomial_product};
+ghost use Rattle.dz_rank.specs.declared.symbols.Symbol.{Symbol};
+ghost use Rattle.dz_rank.specs.declared.symbols.Symbol.TheVariants.{Independent};
 ghost use Rattle.dz_rank.specs.Rankings.{ranking_cmp};
 ghost use Rattle.dz_poly.specs.Books.{Lives, polynomial};
 ghost use Rattle.dz_poly.specs.Ranked.{symbol_rate, symbols_under};
@@ -53,6 +55,20 @@ pub fn value_of_derivative<D: Domain>(book: &Book, a: Poly, i: u8, at: &Point<D>
         (polynomial book.now a))
         ≡ (D.operations).derivative i
         (value_at D.operations at.now (polynomial book.now a)) }
+{
+    at.is_point();
+}
+
+/// No derivation of polynomials whose values are the derivatives of the values takes the
+/// independent of its number to zero.
+pub fn independent_is_not_constant<D: Domain>(book: &Book, i: u8, at: &Point<D>)
+    requires below { i < book.now.ranking.signature.independents }
+    requires fits { FitsSignature book.now.ranking.signature at.now }
+    ensures { (rate : Symbol → Rate Symbol)
+        → ((a : Polynomial Symbol) → value_at D.operations at.now
+        (polynomial_derivative (ranking_cmp book.now.ranking) rate a)
+        ≡ (D.operations).derivative i (value_at D.operations at.now a))
+        → rate (Independent i) ≢ constant }
 {
     at.is_point();
 }

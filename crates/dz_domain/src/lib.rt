@@ -12,6 +12,9 @@ mod whole;
 
 pub use adjoin::{Adjoin, Coefficients};
 pub use domain::Domain;
-pub use laws::{ground_is_nonzero, value_of_derivative, value_of_product, value_of_sum};
+pub use laws::{
+    ground_is_nonzero, independent_is_not_constant, value_of_derivative, value_of_product,
+    value_of_sum,
+};
 pub use point::Point;
 pub use whole::Whole;

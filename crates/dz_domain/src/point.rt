@@ -58,3 +58,48 @@ impl<D: Domain> Point<D> {
         let _ = &self.domain;
     }
 }
+
+#[cfg(test)]
+mod tests {
+    use super::*;
+    use crate::adjoin::{Adjoin, Coefficients};
+    use crate::whole::Whole;
+    use std::test::Fail;
+
+    // polynomials in x, with u the square of x; polynomials in x and y, with u their product; and
+    // whole numbers, with no derivation
+    #[test]
+    fn points_over_polynomials(rt: HostRuntime) -> Result<(), Fail> {
+        let alloc = rt.alloc();
+        let x = Coefficients::new(vec![in alloc; 0i128, 1]?);
+        let square = Coefficients::new(vec![in alloc; 0i128, 0, 1]?);
+        let parabola = Point::new(
+            Adjoin::new(Whole::new()),
+            vec![in alloc; x]?,
+            vec![in alloc; square]?,
+        );
+        assert!(rt; parabola.independents[0].items() == [0i128, 1].as_slice());
+        assert!(rt; parabola.dependents[0].items() == [0i128, 0, 1].as_slice());
+
+        let x = Coefficients::new(vec![in alloc; Coefficients::new(vec![in alloc; 0i128, 1]?)]?);
+        let none = Coefficients::new(Vec::new(alloc));
+        let y = Coefficients::new(vec![in alloc; none, Coefficients::new(vec![in alloc; 1i128]?)]?);
+        let none = Coefficients::new(Vec::new(alloc));
+        let product = Coefficients::new(vec![in alloc;
+            none,
+            Coefficients::new(vec![in alloc; 0i128, 1]?),
+        ]?);
+        let saddle = Point::new(
+            Adjoin::new(Adjoin::new(Whole::new())),
+            vec![in alloc; x, y]?,
+            vec![in alloc; product]?,
+        );
+        assert!(rt; saddle.independents[0].items()[0].items() == [0i128, 1].as_slice());
+        assert!(rt; saddle.independents[1].items()[1].items() == [1i128].as_slice());
+        assert!(rt; saddle.dependents[0].items()[1].items() == [0i128, 1].as_slice());
+
+        let numbers = Point::empty(alloc, Whole::new());
+        assert!(rt; numbers.independents.is_empty() && numbers.dependents.is_empty());
+        Ok(())
+    }
+}
