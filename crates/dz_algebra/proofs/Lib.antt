@@ -27,3 +27,4 @@ pub mod SameAmounts
 pub mod OperationOrder
 pub mod Inside
 pub mod SymbolLists
+pub mod Linear
