@@ -9,3 +9,4 @@ pub mod Places
 pub mod Finishing
 pub mod Summing
 pub mod Books
+pub mod Multiplying
