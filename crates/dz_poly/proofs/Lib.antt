@@ -10,3 +10,4 @@ pub mod Finishing
 pub mod Summing
 pub mod Books
 pub mod Multiplying
+pub mod OneTerm

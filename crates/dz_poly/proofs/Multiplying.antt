@@ -1,7 +1,8 @@
 -- Products of polynomials that stand in a book.
-use Rattle.std.proofs.Common.{◌≡◌, ◌≢◌, ◌<◌, ◌≤◌, ◌+◌, ◌-◌, ◌*ℤ◌, ◌∙◌, ◌||◌, ℕ, zero, suc, Bool, true, false, cond, List, [], ◌∷◌, ◌++◌, length, take, drop, get_or, nat_lt, ℤ, refl, sym, ap, ap₂, subst, arith, add-one, max}
+use Rattle.std.proofs.Common.{◌≡◌, ◌≢◌, ◌<◌, ◌≤◌, ◌+◌, ◌-◌, ◌*ℤ◌, ◌∙◌, ◌||◌, ℕ, zero, suc, Bool, true, false, cond, List, [], ◌∷◌, ◌++◌, length, take, drop, get_or, nat_lt, ℤ, unsigned_abs, refl, sym, ap, ap₂, subst, arith, add-one, max, ◌⊎◌, inl, inr}
 use Rattle.std.specs.Prelude.{Option, Some, None, Ok}
 use Rattle.std.proofs.lemmas.Bool.Decides.{nat_tests}
+use Rattle.std.proofs.lemmas.List.Elements.{All-nil}
 use Rattle.std.specs.declared.cmp.Ordering.{Ordering}
 use Rattle.std.specs.declared.cmp.Ordering.TheVariants.{Less, Equal, Greater}
 use Rattle.std.specs.Ordering.{match_ordering}
@@ -12,25 +13,26 @@ use Rattle.dz_algebra.specs.Gather.{put, onto, merge}
 use Rattle.dz_algebra.specs.Order.{IsOrder, IsAbove, IsFalling}
 use Rattle.dz_algebra.specs.Monomial.{Monomial, IsMonomial, MonomialIn, with_power, monomial_product, monomial_cmp}
 use Rattle.dz_algebra.specs.Polynomial.{Polynomial, Contributions, IsPolynomial, AreMonomials, PolynomialIn, term_times, pairs, collect}
-use Rattle.dz_algebra.specs.Amount.{Amount, amount, amounts, add_amounts, gathered}
+use Rattle.dz_algebra.specs.Amount.{Amount, amount, amounts, add_amounts, gathered, greatest}
 use Rattle.dz_algebra.specs.Symbols.{Symbols}
 use Rattle.dz_algebra.specs.Size.{operation, refusal, refused, unless, fits}
 use Rattle.dz_algebra.proofs.Canonical.{are_monomials}
 use Rattle.dz_algebra.proofs.Gathers.{merge_puts, longer_onto, any_onto}
 use Rattle.dz_algebra.proofs.MonomialOrder.{product_keeps_order}
-use Rattle.dz_algebra.proofs.Operations.{monomial_order, onto-append, amounts-append}
+use Rattle.dz_algebra.proofs.Operations.{monomial_order, onto-append, amounts-append, product_left_zero, product_right_zero}
 use Rattle.dz_algebra.proofs.Products.{monomials_pairs}
 use Rattle.dz_rank.specs.declared.symbols.Symbol.{Symbol}
 use Rattle.dz_rank.specs.Rankings.{RankingValue, ranking_cmp}
 use Rattle.dz_rank.specs.Symbols.{BelongsTo, total_order}
-use Rattle.dz_poly.specs.Books.{IsKeepable, refusal_of}
-use Rattle.dz_poly.specs.Cells.{capped, caps}
+use Rattle.dz_poly.specs.Books.{IsKeepable, refusal_of, IsStop}
+use Rattle.dz_poly.specs.Cells.{capped, add_capped, caps}
 use Rattle.dz_poly.specs.Degrees.{degrees, has_high_order, has_high_exponent, limit_of_counts, limit_by}
 use Rattle.dz_poly.specs.Entries.{IsEntry}
 use Rattle.dz_poly.specs.Ranked.{symbols_under}
 use Rattle.dz_poly.specs.Supports.{IsSupportOf}
 use Rattle.dz_poly.specs.declared.PolyStop.{PolyStop}
-use Rattle.dz_poly.specs.declared.PolyStop.TheVariants.{Large}
+use Rattle.dz_poly.specs.declared.PolyStop.TheVariants.{Memory, Large}
+use Rattle.dz_poly.proofs.Amounts.{merged, length-caps}
 use Rattle.dz_poly.proofs.Multiples.{high_multiple}
 use Rattle.dz_poly.proofs.Operations.{operation_keepable}
 use Rattle.dz_poly.proofs.Summing.{support_of, low_entry}
@@ -156,6 +158,29 @@ pairs_more cmp i p q t h e =
     let k : suc (length p - (i + 1)) ≡ length p - i = omega arith in
     sym (ap (λ l. pairs cmp l q) (drop_here (length p - (i + 1)) p t (omega arith) (e ∙ ap (λ n. get_or p n t) j)) ∙ ap (λ n. term_times cmp t.0 t.1 q ++ pairs cmp (drop n p) q) k)
 
+-- a row that is refused has a high exponent
+pub row_refused : {S : Type 0} {cmp : S → S → Ordering} → IsOrder cmp → (k : Monomial S) (c : ℤ) (q : Polynomial S) (i : ℕ) (u : Monomial S × ℤ) → i < length q → u ≡ get_or q i u → IsMonomial cmp k → IsPolynomial cmp q → (stop : PolyStop) → (stop ≡ Memory) ⊎ ((stop ≡ Large limits.Exponent) × (has_high_exponent (merge cmp ◌+◌ u.0 k) ≡ true)) → (stop ≡ Memory) ⊎ ((stop ≡ Large limits.Exponent) × (has_high_exponent (degrees cmp (term_times cmp k c q)) ≡ true))
+row_refused order k c q i u h g a b stop (inl e) = inl e
+row_refused {cmp = cmp} order k c q i u h g a b stop (inr e) = inr (e.0, high_row order k c q i u h g (ap has_high_exponent (sym (product_merges order k u.0 a (monomial_at cmp q i u h g b))) ∙ e.1))
+
+module _ {S : Type 0} {cmp : S → S → Ordering} (order : IsOrder cmp) (p q : Polynomial S) where
+  -- where no pair has a high exponent, only memory stops a row
+  pub memory_alone : {X : Type 0} (i : ℕ) (t : Monomial S × ℤ) → i < length p → t ≡ get_or p i t → has_high_exponent (degrees cmp (pairs cmp p q)) ≡ false → (stop : PolyStop) → (stop ≡ Memory) ⊎ ((stop ≡ Large limits.Exponent) × (has_high_exponent (degrees cmp (term_times cmp t.0 t.1 q)) ≡ true)) → (stop ≡ Memory) ⊎ X
+  memory_alone i t h e a stop (inl f) = inl f
+  memory_alone i t h e a stop (inr f) = absurd (low_row order p q i t h e a f.1)
+
+  -- one more row
+  pub row_absorbed : (i : ℕ) (t : Monomial S × ℤ) (cells row all : List (Monomial S × Option Amount)) → i < length p → t ≡ get_or p (length p - 1 - i) t → IsPolynomial cmp p → IsPolynomial cmp q → all ≡ merge (monomial_cmp cmp) add_capped cells row → cells ≡ caps (gathered cmp (pairs cmp (drop (length p - i) p) q)) → row ≡ caps (amounts (term_times cmp t.0 t.1 q)) → all ≡ caps (gathered cmp (pairs cmp (drop (length p - (i + 1)) p) q))
+  row_absorbed i t cells row all h e a b f g k =
+      let term = monomial_at cmp p (length p - 1 - i) t (omega arith) e a in
+      f ∙ ap₂ (merge (monomial_cmp cmp) add_capped) g k
+      ∙ merged order (term_times cmp t.0 t.1 q) (pairs cmp (drop (length p - i) p) q) (row_falls order t.0 t.1 q term b)
+      ∙ ap (λ ts. caps (gathered cmp ts)) (pairs_more cmp i p q t h e)
+
+  -- too many cells so far are too many in the end
+  pub too_many : (k : ℕ) (all : List (Monomial S × Option Amount)) → all ≡ caps (gathered cmp (pairs cmp (drop k p) q)) → 4096 < length all → 4096 < length (gathered cmp (pairs cmp p q))
+  too_many k all e l = let h = longer_pairs order k p q in let g : length all ≡ length (gathered cmp (pairs cmp (drop k p) q)) = ap length e ∙ length-caps (gathered cmp (pairs cmp (drop k p) q)) in omega arith
+
 -- ---- what a product answers
 -- an operation whose support passes a limit is refused by it
 pub refused_by_limit : {S : Type 0} (g : Symbols S) → IsOrder g.cmp → (ts : Contributions S) → AreMonomials g.cmp ts → (l : Limit) → limit_by g.total_order (degrees g.cmp ts) (length (gathered g.cmp ts)) ≡ Some l → refusal_of (operation g ts) ≡ Some (Large l)
@@ -168,18 +193,22 @@ pub record IsProductOf (r : RankingValue) (p q : Polynomial Symbol) (table : Mon
   pub degrees_are : table ≡ degrees (ranking_cmp r) (pairs (ranking_cmp r) p q)
   pub orders : has_high_order total_order table ≡ false
 
-pub product_of : (r : RankingValue) (p : Polynomial Symbol) (a : Monomial Symbol) (q : Polynomial Symbol) (b : Monomial Symbol) → IsEntry r p a → IsEntry r q b → p ≢ [] → q ≢ [] → IsProductOf r p q (merge (ranking_cmp r) ◌+◌ b a)
-product_of r p a q b h g n m =
+pub product_of : (r : RankingValue) (p : Polynomial Symbol) (a : Monomial Symbol) (q : Polynomial Symbol) (b : Monomial Symbol) (table : Monomial Symbol) → IsEntry r p a → IsEntry r q b → p ≢ [] → q ≢ [] → table ≡ merge (ranking_cmp r) ◌+◌ b a → IsProductOf r p q table
+product_of r p a q b table h g n m e =
     let order = ranking_order r in
     let cmp = ranking_cmp r in
     let i = are_monomials order p h.keepable.canonical in
     let j = are_monomials order q g.keepable.canonical in
-    let k : merge cmp ◌+◌ b a ≡ onto cmp ◌+◌ (degrees cmp p) (degrees cmp q) = ap₂ (merge cmp ◌+◌) g.degrees_are h.degrees_are ∙ merge_puts order ◌+◌ (degrees cmp q) (degrees cmp p) (falling_powers cmp (degrees cmp q) (degrees_monomial order q j)) (falling_powers cmp (degrees cmp p) (degrees_monomial order p i)) in
+    let k : table ≡ onto cmp ◌+◌ (degrees cmp p) (degrees cmp q) = e ∙ ap₂ (merge cmp ◌+◌) g.degrees_are h.degrees_are ∙ merge_puts order ◌+◌ (degrees cmp q) (degrees cmp p) (falling_powers cmp (degrees cmp q) (degrees_monomial order q j)) (falling_powers cmp (degrees cmp p) (degrees_monomial order p i)) in
     record {
       monomials = monomials_pairs order p q i j;
       degrees_are = k ∙ onto_is_product cmp (degrees cmp p) (degrees cmp q) ∙ degrees_product order p q n m i j;
       orders = ap (has_high_order total_order) k ∙ any_onto order ◌+◌ (λ s. nat_lt 60 (total_order s)) (degrees cmp p) (degrees cmp q) ∙ ap₂ (λ x y. x || y) (low_entry r p h.keepable).orders (low_entry r q g.keepable).orders;
     }
+
+-- the table of an entry has no high exponent
+pub low_table : (r : RankingValue) (p : Polynomial Symbol) (a : Monomial Symbol) → IsEntry r p a → has_high_exponent a ≡ false
+low_table r p a h = ap has_high_exponent h.degrees_are ∙ (low_entry r p h.keepable).exponents
 
 module _ (r : RankingValue) (p q : Polynomial Symbol) (table : Monomial Symbol) (h : IsProductOf r p q table) where
   abbrev ts : Contributions Symbol
@@ -202,6 +231,15 @@ module _ (r : RankingValue) (p q : Polynomial Symbol) (table : Monomial Symbol) 
       let f : nat_lt 64 (length table) ≡ false = grind (arith, nat_tests) in
       let k : nat_lt 4096 (length (gathered (ranking_cmp r) ts)) ≡ true = grind (arith, nat_tests) in
       counted limits.Terms e (ap₂ (λ a b. cond a (Some limits.Symbols) (cond b (Some limits.Terms) None)) f k)
+
+  -- the refusals of a product's degrees and cells
+  pub degrees_refused : (stop : PolyStop) → (stop ≡ Memory) ⊎ ((stop ≡ Large limits.Exponent) × (has_high_exponent table ≡ true)) → IsStop stop (operation (symbols_under r) ts)
+  degrees_refused stop (inl e) = inl e
+  degrees_refused stop (inr e) = inr (too_high e.1 ∙ ap Some (sym e.0))
+
+  pub cells_refused : has_high_exponent table ≡ false → length table ≤ 64 → (stop : PolyStop) → (stop ≡ Memory) ⊎ ((stop ≡ Large limits.Terms) × (4096 < length (gathered (ranking_cmp r) ts))) → IsStop stop (operation (symbols_under r) ts)
+  cells_refused f l stop (inl e) = inl e
+  cells_refused f l stop (inr e) = inr (too_many_terms f l e.1 ∙ ap Some (sym e.0))
 
   -- the support of a product
   pub product_support : (cells : List (Monomial Symbol × Option Amount)) → has_high_exponent table ≡ false → cells ≡ caps (gathered (ranking_cmp r) ts) → IsSupportOf r ts table cells
@@ -238,3 +276,22 @@ pub product_keepable : (r : RankingValue) (p q : Polynomial Symbol) → IsKeepab
 product_keepable r p q h g a e =
     let order = ranking_order r in
     operation_keepable r (pairs (ranking_cmp r) p q) (monomials_pairs order p q (are_monomials order p h.canonical) (are_monomials order q g.canonical)) (pairs_in (BelongsTo r.signature) (ranking_cmp r) p q h.belongs g.belongs) a e
+
+-- ---- zero
+nothing : {X : Type 0} (xs : List X) → length xs ≡ 0 → xs ≡ []
+nothing [] e = refl
+nothing (x ∷ xs) e = absurd (omega arith)
+
+pub not_zero : {X : Type 0} (xs : List X) → length xs ≢ 0 → xs ≢ []
+not_zero xs n e = n (ap length e)
+
+-- a product with zero is zero, and never refused
+pub left_zero : (r : RankingValue) (p q z : Polynomial Symbol) → length p ≡ 0 → z ≡ [] → operation (symbols_under r) (pairs (ranking_cmp r) p q) ≡ Ok z
+left_zero r p q z h e = ap (λ l. operation (symbols_under r) (pairs (ranking_cmp r) l q)) (nothing p h) ∙ product_left_zero (symbols_under r) q ∙ ap Ok (sym e)
+
+pub right_zero : (r : RankingValue) (p q z : Polynomial Symbol) → length q ≡ 0 → z ≡ [] → operation (symbols_under r) (pairs (ranking_cmp r) p q) ≡ Ok z
+right_zero r p q z h e = ap (λ l. operation (symbols_under r) (pairs (ranking_cmp r) p l)) (nothing q h) ∙ product_right_zero (symbols_under r) p ∙ ap Ok (sym e)
+
+-- zero may stand in a book
+pub zero_entry : (r : RankingValue) (z : Polynomial Symbol) (table : Monomial Symbol) → z ≡ [] → table ≡ [] → IsEntry r z table
+zero_entry r z table e f = subst (λ z. IsEntry r z table) (sym e) (record { keepable = record { canonical = tt; belongs = tt; small = refl; in_range = All-nil (λ t. unsigned_abs t.1 ≤ greatest) }; degrees_are = f })
