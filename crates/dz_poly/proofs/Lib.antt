@@ -9,3 +9,5 @@ pub mod Places
 pub mod Finishing
 pub mod Summing
 pub mod Books
+pub mod Multiplying
+pub mod OneTerm

@@ -22,6 +22,19 @@ high-append (x ∷ xs) ys = ap (λ b. nat_lt 65535 x.1 || b) (high-append xs ys)
     grouped true b c = refl
     grouped false b c = refl
 
+pub low_rest : {S : Type 0} (p : S × ℕ) (m : Monomial S) → has_high_exponent (p ∷ m) ≡ false → has_high_exponent m ≡ false
+low_rest p m e = by_test (nat_lt 65535 p.1) e
+  where
+    by_test : (b : Bool) → (b || has_high_exponent m) ≡ false → has_high_exponent m ≡ false
+    by_test true e = cc
+    by_test false e = e
+
+pub low_push : {S : Type 0} (all : Monomial S) (p : S × ℕ) → has_high_exponent all ≡ false → p.1 < 65536 → has_high_exponent (all ++ p ∷ []) ≡ false
+low_push all p h l = let e : nat_lt 65535 p.1 ≡ false = grind (arith, nat_tests) in high-append all (p ∷ []) ∙ ap₂ (λ a b. a || (b || false)) h e
+
+pub low_end : {S : Type 0} (all m new : Monomial S) → has_high_exponent all ≡ false → has_high_exponent m ≡ false → new ≡ all ++ m → has_high_exponent new ≡ false
+low_end all m new h g e = ap has_high_exponent e ∙ high-append all m ∙ ap₂ (λ a b. a || b) h g
+
 -- one pass over two monomials
 module _ {S : Type 0} (cmp : S → S → Ordering) where
   merge_nothing : (add : ℕ → ℕ → ℕ) (ts : Monomial S) → merge cmp add ts [] ≡ ts

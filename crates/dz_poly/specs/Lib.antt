@@ -6,3 +6,4 @@ pub mod Merging
 pub mod Entries
 pub mod Signs
 pub mod Supports
+pub mod Terms

@@ -13,13 +13,16 @@ mod cell;
 mod degrees;
 mod entry;
 mod finish;
+mod making;
 mod powers;
+mod products;
 mod sums;
 mod term;
 
 pub use arithmetic::{add, sub};
 pub use book::{Book, Poly};
 pub use dz_algebra::Limit;
+pub use making::{constant, symbol_poly, zero};
 
 use std::alloc::{AllocError, AllocFailed};
 use thiserror::Error;

@@ -1,6 +1,6 @@
 //! Monomials: symbols with their exponents, the greatest symbol first.
 
-ghost use Rattle.std.specs.Prelude.{◌≡◌, ◌⊎◌, ◌+◌, max, true, IfOk, IfErr};
+ghost use Rattle.std.specs.Prelude.{◌≡◌, ◌⊎◌, ◌+◌, max, false, true, IfOk, IfErr};
 ghost use Rattle.dz_algebra.specs.Gather.{merge};
 ghost use Rattle.dz_algebra.specs.Monomial.{IsMonomial, exponent, monomial_cmp};
 ghost use Rattle.dz_algebra.specs.declared.Limit.TheVariants.{Exponent};
@@ -54,7 +54,13 @@ pub(crate) fn exponent_of(ranking: &Ranking, powers: &[(Symbol, u16)], symbol: S
     0
 }
 
-#[tactic(auto, using(crate::proofs::MonomialPasses::ended, crate::proofs::MonomialPasses::exceeds))]
+#[tactic(auto, using(
+    crate::proofs::MonomialPasses::ended,
+    crate::proofs::MonomialPasses::exceeds,
+    crate::proofs::MonomialPasses::low_rest,
+    crate::proofs::MonomialPasses::low_push,
+    crate::proofs::MonomialPasses::low_end,
+))]
 /// The product of two monomials, where its exponents are in range.
 pub(crate) fn multiply(
     alloc: Global,
@@ -62,7 +68,10 @@ pub(crate) fn multiply(
     m: &[(Symbol, u16)],
     n: &[(Symbol, u16)],
 ) -> Result<Powers, PolyStop>
+    requires first { has_high_exponent m.now ≡ false }
+    requires second { has_high_exponent n.now ≡ false }
     ensures ok { IfOk result (λ all. all.items ≡ merge (ranking_cmp ranking.now) ◌+◌ n.now m.now) }
+    ensures fits { IfOk result (λ all. has_high_exponent all.items ≡ false) }
     ensures refused { IfErr result (λ e. (e ≡ Memory) ⊎ ((e ≡ Large Exponent)
         × (has_high_exponent (merge (ranking_cmp ranking.now) ◌+◌ n.now m.now) ≡ true))) }
 {
