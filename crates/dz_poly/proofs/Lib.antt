@@ -13,3 +13,5 @@ pub mod Multiplying
 pub mod OneTerm
 pub mod ReadingBooks
 pub mod Below
+pub mod Divisibility
+pub mod PowerCoefficients

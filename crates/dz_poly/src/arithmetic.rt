@@ -80,18 +80,9 @@ pub fn mul(book: &mut Book, a: Poly, b: Poly) -> Result<Poly, PolyStop>
     Ok(book.keep(product)?)
 }
 
-#[tactic(auto, using(
-    crate::proofs::Multiplying::times_zero,
-    crate::proofs::Multiplying::order_refused,
-))]
+#[tactic(auto, using(crate::proofs::Multiplying::times_zero, crate::proofs::Multiplying::order_refused,))]
 /// The product with `c * s^k`, where `c` is in range and not zero.
-pub fn mul_term(
-    book: &mut Book,
-    a: Poly,
-    c: i128,
-    s: Symbol,
-    k: u16,
-) -> Result<Poly, PolyStop>
+pub fn mul_term(book: &mut Book, a: Poly, c: i128, s: Symbol, k: u16) -> Result<Poly, PolyStop>
     requires lives { Lives book.old a }
     requires nonzero { c ≢ pos 0 }
     requires in_range { unsigned_abs c ≤ greatest }
@@ -105,11 +96,6 @@ pub fn mul_term(
         return zero(book);
     }
     let factor = factor(book.allocator(), c, s, k)?;
-    let product = product(
-        book.allocator(),
-        book.ranking(),
-        &factor,
-        book.entry(a),
-    )?;
+    let product = product(book.allocator(), book.ranking(), &factor, book.entry(a))?;
     Ok(book.keep(product)?)
 }

@@ -58,8 +58,10 @@ impl Model for Book {
 
     ghost Value = { BookValue };
 
-    ghost view = { λ b. record { ranking = b.ranking;
-        polynomials = map (λ e. e.terms.items) b.entries.items } };
+    ghost view = { λ b. record {
+      ranking = b.ranking;
+      polynomials = map (λ e. e.terms.items) b.entries.items;
+    } };
 
     ghost invariant = { λ b.
         All (λ e. IsEntry b.ranking e.terms.items e.degrees.items) b.entries.items };
@@ -107,8 +109,10 @@ impl Book {
     /// Gives up the polynomials that were made after the mark; the older ones are as before.
     pub fn restore(&mut self, mark: BookMark)
         requires { mark ≤ length self.old.polynomials }
-        ensures { self.new ≡ record { ranking = self.old.ranking;
-            polynomials = take mark self.old.polynomials } }
+        ensures { self.new ≡ record {
+          ranking = self.old.ranking;
+          polynomials = take mark self.old.polynomials;
+        } }
     {
         self.entries.truncate(mark.count);
     }

@@ -13,10 +13,7 @@ use crate::term::Term;
 use dz_rank::{Ranking, Symbol};
 use std::cmp::Ordering;
 
-#[tactic(auto, using(
-    crate::proofs::ReadingBooks::table_is_monomial,
-    crate::proofs::ReadingBooks::degree_stands,
-))]
+#[tactic(auto, using(crate::proofs::ReadingBooks::table_is_monomial, crate::proofs::ReadingBooks::degree_stands,))]
 /// The degree in a symbol, 0 where it does not occur.
 pub fn degree_in(book: &Book, a: Poly, s: Symbol) -> u16
     requires { Lives book.now a }
@@ -85,11 +82,7 @@ fn same_term(ranking: &Ranking, a: &Term, b: &Term) -> bool
     }
 }
 
-#[tactic(auto, using(
-    crate::proofs::ReadingBooks::other_term,
-    crate::proofs::ReadingBooks::other_length,
-    crate::proofs::ReadingBooks::all_same,
-))]
+#[tactic(auto, using(crate::proofs::ReadingBooks::other_term, crate::proofs::ReadingBooks::other_length, crate::proofs::ReadingBooks::all_same,))]
 /// Whether two lists of terms are equal.
 fn same_terms(ranking: &Ranking, a: &[Term], b: &[Term]) -> bool
     ensures { IsTrue result ↔ (a.now ≡ b.now) }
