@@ -15,7 +15,6 @@ module _ {S : Type 0} (cmp : S → S → Ordering) where
   abbrev Cells : Type 0
   Cells = List (Monomial S × Option Amount)
 
-
   one_more : (t : Monomial S × Option Amount) (cells : Cells) (o : Option (Polynomial S)) → ((p : Polynomial S) → o ≡ Some p → (length p ≤ length cells) × (length cells ≡ length p → degrees cmp cells ≡ degrees cmp p)) → (p : Polynomial S) → keep_fitting t.0 t.1 o ≡ Some p → (length p ≤ length (t ∷ cells)) × (length (t ∷ cells) ≡ length p → degrees cmp (t ∷ cells) ≡ degrees cmp p)
   one_more (m, None) cells o h p e = cc
   one_more (m, Some a) cells None h p e = cc

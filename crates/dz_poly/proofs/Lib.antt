@@ -11,3 +11,7 @@ pub mod Summing
 pub mod Books
 pub mod Multiplying
 pub mod OneTerm
+pub mod ReadingBooks
+pub mod Below
+pub mod Divisibility
+pub mod PowerCoefficients

@@ -1,5 +1,5 @@
 -- Products of polynomials that stand in a book.
-use Rattle.std.proofs.Common.{◌≡◌, ◌≢◌, ◌<◌, ◌≤◌, ◌+◌, ◌-◌, ◌*ℤ◌, ◌∙◌, ◌||◌, ℕ, zero, suc, Bool, true, false, cond, List, [], ◌∷◌, ◌++◌, length, take, drop, get_or, nat_lt, ℤ, unsigned_abs, refl, sym, ap, ap₂, subst, arith, add-one, max, ◌⊎◌, inl, inr}
+use Rattle.std.proofs.Common.{◌≡◌, ◌≢◌, ◌<◌, ◌≤◌, ◌+◌, ◌-◌, ◌*ℤ◌, ◌∙◌, ◌||◌, ℕ, zero, suc, Bool, true, false, cond, List, [], ◌∷◌, ◌++◌, length, take, drop, get_or, nat_lt, ◌==◌, ℤ, unsigned_abs, refl, sym, ap, ap₂, subst, arith, add-one, max, ◌⊎◌, inl, inr}
 use Rattle.std.specs.Prelude.{Option, Some, None, Ok}
 use Rattle.std.proofs.lemmas.Bool.Decides.{nat_tests}
 use Rattle.std.proofs.lemmas.List.Elements.{All-nil}
@@ -30,6 +30,7 @@ use Rattle.dz_poly.specs.Degrees.{degrees, has_high_order, has_high_exponent, li
 use Rattle.dz_poly.specs.Entries.{IsEntry}
 use Rattle.dz_poly.specs.Ranked.{symbols_under}
 use Rattle.dz_poly.specs.Supports.{IsSupportOf}
+use Rattle.dz_poly.specs.Terms.{power_term}
 use Rattle.dz_poly.specs.declared.PolyStop.{PolyStop}
 use Rattle.dz_poly.specs.declared.PolyStop.TheVariants.{Memory, Large}
 use Rattle.dz_poly.proofs.Amounts.{merged, length-caps}
@@ -295,3 +296,42 @@ right_zero r p q z h e = ap (λ l. operation (symbols_under r) (pairs (ranking_c
 -- zero may stand in a book
 pub zero_entry : (r : RankingValue) (z : Polynomial Symbol) (table : Monomial Symbol) → z ≡ [] → table ≡ [] → IsEntry r z table
 zero_entry r z table e f = subst (λ z. IsEntry r z table) (sym e) (record { keepable = record { canonical = tt; belongs = tt; small = refl; in_range = All-nil (λ t. unsigned_abs t.1 ≤ greatest) }; degrees_are = f })
+
+pub times_zero : (r : RankingValue) (p q : Polynomial Symbol) → length q ≡ 0 → operation (symbols_under r) (pairs (ranking_cmp r) p q) ≡ Ok []
+times_zero r p q h = right_zero r p q [] h refl
+
+-- a power of a derivative that is too high makes every product but zero too high
+pub order_refused : (r : RankingValue) (c : ℤ) (s : Symbol) (k : ℕ) (q : Polynomial Symbol) → IsKeepable r q → q ≢ [] → (stop : PolyStop) → (stop ≡ Memory) ⊎ ((stop ≡ Large limits.Order) × (0 < k) × (60 < total_order s)) → IsStop stop (operation (symbols_under r) (pairs (ranking_cmp r) (power_term c s k) q))
+order_refused r c s k q h n stop (inl e) = inl e
+order_refused r c s zero q h n stop (inr e) = absurd (omega (arith, e.1))
+order_refused r c s (suc k) q h n stop (inr e) = inr (refused_by_limit (symbols_under r) order (pairs cmp p q) (monomials_pairs order p q i j) limits.Order high ∙ ap Some (sym e.0))
+  where
+    order : IsOrder (ranking_cmp r)
+    order = ranking_order r
+
+    cmp : Symbol → Symbol → Ordering
+    cmp = ranking_cmp r
+
+    p : Polynomial Symbol
+    p = power_term c s (suc k)
+
+    i : AreMonomials (ranking_cmp r) (power_term c s (suc k))
+    i = ((omega arith, tt, tt), tt)
+
+    j : AreMonomials (ranking_cmp r) q
+    j = are_monomials (ranking_order r) q h.canonical
+
+    first : nat_lt 60 (total_order s) ≡ true
+    first = let l : 60 < total_order s = e.2 in grind (arith, nat_tests)
+
+    some : has_high_order total_order (degrees (ranking_cmp r) (pairs (ranking_cmp r) (power_term c s (suc k)) q)) ≡ true
+    some =
+        ap (has_high_order total_order) (sym (onto_is_product (ranking_cmp r) ((s, suc k) ∷ []) (degrees (ranking_cmp r) q) ∙ degrees_product (ranking_order r) (power_term c s (suc k)) q (λ e. cc) n i j))
+        ∙ any_onto (ranking_order r) ◌+◌ (λ s. nat_lt 60 (total_order s)) ((s, suc k) ∷ []) (degrees (ranking_cmp r) q)
+        ∙ ap (λ b. (b || false) || has_high_order total_order (degrees (ranking_cmp r) q)) first
+
+    high : limit_by total_order (degrees (ranking_cmp r) (pairs (ranking_cmp r) (power_term c s (suc k)) q)) (length (gathered (ranking_cmp r) (pairs (ranking_cmp r) (power_term c s (suc k)) q))) ≡ Some limits.Order
+    high = ap (λ b. cond b (Some limits.Order) (cond (has_high_exponent (degrees (ranking_cmp r) (pairs (ranking_cmp r) (power_term c s (suc k)) q))) (Some limits.Exponent) (limit_of_counts (length (degrees (ranking_cmp r) (pairs (ranking_cmp r) (power_term c s (suc k)) q))) (length (gathered (ranking_cmp r) (pairs (ranking_cmp r) (power_term c s (suc k)) q)))))) some
+
+pub not_empty : {X : Type 0} (xs : List X) → false ≡ (length xs == 0) → xs ≢ []
+not_empty xs e f = let z : false ≡ true = e ∙ ap (λ l. length l == 0) f in cc

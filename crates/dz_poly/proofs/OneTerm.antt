@@ -57,3 +57,8 @@ power_entry r c s k terms table n l p q b o e f =
       };
       degrees_are = f;
     })
+
+-- a number is itself times a power to zero
+pub number_as_power : (c : ℤ) (s : Symbol) (k : ℕ) (terms : Polynomial Symbol) → c ≢ pos 0 → k ≡ 0 → terms ≡ constant_polynomial c → terms ≡ power_term c s k
+number_as_power c s zero terms n h e = e ∙ ap (λ b. cond b [] (([], c) ∷ [])) (not_zero c n)
+number_as_power c s (suc k) terms n h e = absurd (omega arith)

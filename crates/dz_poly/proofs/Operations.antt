@@ -232,4 +232,3 @@ operation_keepable r ts h i p e =
       small = subst (λ q. limit_of (symbols_under r) (map (λ t. t.0) q) ≡ None) n (small_nonzero (symbols_under r) order ts h (subst (IsPolynomial (ranking_cmp r)) (sym n) k) f.0);
       in_range = subst AreInRange n (in_range_nonzero (gathered (ranking_cmp r) ts) (bounded_gathered (ranking_cmp r) ts) f.1);
     }
-

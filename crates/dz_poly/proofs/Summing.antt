@@ -96,9 +96,9 @@ pub support_of : (r : RankingValue) (ts : Contributions Symbol) (table : Monomia
 support_of r ts table cells h d e f k = record {
   support = record { degrees_are = d ∙ sym (ap (degrees (ranking_cmp r)) e ∙ degrees-caps (ranking_cmp r) (gathered (ranking_cmp r) ts) ∙ degrees_gathered (ranking_order r) ts h); orders = f; exponents = k };
   answer =
-    ap₂ (λ m c. concluded (limit_by total_order m (length c)) (finished c)) d e
-    ∙ ap (λ n. concluded (limit_by total_order (degrees (ranking_cmp r) ts) n) (finished (caps (gathered (ranking_cmp r) ts)))) (length-caps (gathered (ranking_cmp r) ts))
-    ∙ concluded_is (symbols_under r) (ranking_order r) ts h;
+      ap₂ (λ m c. concluded (limit_by total_order m (length c)) (finished c)) d e
+      ∙ ap (λ n. concluded (limit_by total_order (degrees (ranking_cmp r) ts) n) (finished (caps (gathered (ranking_cmp r) ts)))) (length-caps (gathered (ranking_cmp r) ts))
+      ∙ concluded_is (symbols_under r) (ranking_order r) ts h;
 }
 
 pub sum_monomials : (r : RankingValue) (p : Polynomial Symbol) (sign : Sign) (q : Polynomial Symbol) → IsKeepable r p → IsKeepable r q → AreMonomials (ranking_cmp r) (p ++ with_sign sign q)

@@ -124,9 +124,9 @@ module _ {S : Type 0} {cmp : S → S → Ordering} (order : IsOrder cmp) where
       one_pass ts us h g
       ∙ same_degrees (ts ++ us) (onto cmp max (degrees cmp ts) (degrees cmp us)) (keys_monomials (ts ++ us) (monomials-append order ts us h g)) (multiple_is order (degrees cmp ts) (degrees cmp us) i j)
       (λ s.
-        exponent_multiple order s (degrees cmp ts) (degrees cmp us) i j
-        ∙ ap₂ max (exponent_degrees s ts (keys_monomials ts h)) (exponent_degrees s us (keys_monomials us g))
-        ∙ sym (greatest-append s ts us))
+      exponent_multiple order s (degrees cmp ts) (degrees cmp us) i j
+      ∙ ap₂ max (exponent_degrees s ts (keys_monomials ts h)) (exponent_degrees s us (keys_monomials us g))
+      ∙ sym (greatest-append s ts us))
 
   -- ---- products
   greatest_times : (s : S) (m : Monomial S) (c : ℤ) (t : Monomial S × ℤ) (q : Polynomial S) → greatest_exponent cmp s (term_times cmp m c (t ∷ q)) ≡ exponent cmp s m + greatest_exponent cmp s (t ∷ q)
@@ -157,9 +157,9 @@ module _ {S : Type 0} {cmp : S → S → Ordering} (order : IsOrder cmp) where
       let j = degrees_monomial (u ∷ q) g in
       same_degrees (pairs cmp (t ∷ p) (u ∷ q)) (monomial_product cmp (degrees cmp (t ∷ p)) (degrees cmp (u ∷ q))) (keys_monomials (pairs cmp (t ∷ p) (u ∷ q)) (monomials_pairs order (t ∷ p) (u ∷ q) h g)) (product_is order (degrees cmp (t ∷ p)) (degrees cmp (u ∷ q)) i j)
       (λ s.
-        exponent_product order s (degrees cmp (t ∷ p)) (degrees cmp (u ∷ q))
-        ∙ ap₂ (λ a b. a + b) (exponent_degrees s (t ∷ p) (keys_monomials (t ∷ p) h)) (exponent_degrees s (u ∷ q) (keys_monomials (u ∷ q) g))
-        ∙ sym (greatest_pairs s t u p q))
+      exponent_product order s (degrees cmp (t ∷ p)) (degrees cmp (u ∷ q))
+      ∙ ap₂ (λ a b. a + b) (exponent_degrees s (t ∷ p) (keys_monomials (t ∷ p) h)) (exponent_degrees s (u ∷ q) (keys_monomials (u ∷ q) g))
+      ∙ sym (greatest_pairs s t u p q))
 
 -- the limit that the support of contributions passes
 pub limit_of_support : {S : Type 0} (g : Symbols S) → IsOrder g.cmp → (ts : Contributions S) → AreMonomials g.cmp ts → limit_of g (support g.cmp ts) ≡ limit_by g.total_order (degrees g.cmp ts) (length (gathered g.cmp ts))

@@ -1,8 +1,9 @@
 -- What a book holds, and what its calls answer.
-use Rattle.std.specs.Prelude.{◌≡◌, ◌<◌, ◌≤◌, ◌⊎◌, ℕ, All, List, [], length, map, take, slice_get, slice_index_or, ℤ, unsigned_abs, Option, Some, None, Result, Ok, Err}
+use Rattle.std.specs.Prelude.{◌≡◌, ◌<◌, ◌≤◌, ◌⊎◌, ℕ, All, List, [], length, map, take, slice_get, slice_index_or, ℤ, pos, unsigned_abs, Option, Some, None, Result, Ok, Err}
 use Rattle.dz_algebra.specs.Amount.{greatest}
+use Rattle.dz_algebra.specs.Monomial.{Monomial}
 use Rattle.dz_algebra.specs.Polynomial.{Polynomial, IsPolynomial, PolynomialIn}
-use Rattle.dz_algebra.specs.Size.{Refusal, wide, large, limit_of}
+use Rattle.dz_algebra.specs.Size.{Refusal, wide, large, limit_of, symbols}
 use Rattle.dz_rank.specs.declared.symbols.Symbol.{Symbol}
 use Rattle.dz_rank.specs.Rankings.{RankingValue, ranking_cmp}
 use Rattle.dz_rank.specs.Symbols.{BelongsTo}
@@ -22,6 +23,14 @@ Lives book p = p < length book.polynomials
 -- the polynomial of a number
 abbrev pub polynomial : BookValue → ℕ → Polynomial Symbol
 polynomial book p = slice_index_or book.polynomials p []
+
+-- the symbols that occur in a polynomial, the greatest first
+abbrev pub symbols_of : RankingValue → Polynomial Symbol → List Symbol
+symbols_of r p = symbols (ranking_cmp r) (map (λ t. t.0) p)
+
+-- a term of a polynomial, counted from 0 and the greatest first
+abbrev pub term_at : Polynomial Symbol → ℕ → Monomial Symbol × ℤ
+term_at p k = slice_index_or p k ([], pos 0)
 
 -- the polynomial of that number stands in the book, and is q
 abbrev pub Means : BookValue → ℕ → Polynomial Symbol → Type 0

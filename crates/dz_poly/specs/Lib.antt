@@ -7,3 +7,4 @@ pub mod Entries
 pub mod Signs
 pub mod Supports
 pub mod Terms
+pub mod Divisions

@@ -28,24 +28,17 @@ fn take_both(cells: &mut VecDeque<Cell>, row: &mut VecDeque<Cell>) -> Option<Cel
     }
 }
 
-#[tactic(auto, using(
-    crate::proofs::Merging::take_less,
-    crate::proofs::Merging::take_greater,
-    crate::proofs::Merging::take_equal,
-    crate::proofs::Merging::take_row,
-    crate::proofs::Merging::take_cells,
-))]
+#[tactic(auto, using(crate::proofs::Merging::take_less, crate::proofs::Merging::take_greater, crate::proofs::Merging::take_equal, crate::proofs::Merging::take_row, crate::proofs::Merging::take_cells,))]
 /// Takes the greatest cell, with the amounts of both lists where both have its monomial.
 fn take_greatest(
     ranking: &Ranking,
     cells: &mut VecDeque<Cell>,
     row: &mut VecDeque<Cell>,
 ) -> Option<Cell>
-    ensures first {
-        merge (monomial_cmp (ranking_cmp ranking.now)) add_capped cells.old.items row.old.items
+    ensures first { merge (monomial_cmp (ranking_cmp ranking.now)) add_capped cells.old.items row.old.items
         ≡ option_to_list result
-            ++ merge (monomial_cmp (ranking_cmp ranking.now)) add_capped
-                cells.new.items row.new.items }
+        ++ merge (monomial_cmp (ranking_cmp ranking.now)) add_capped
+        cells.new.items row.new.items }
     ensures fewer { OnSome result (length cells.new.items + length row.new.items
         < length cells.old.items + length row.old.items) }
     ensures none { IfNone result ((cells.old.items ≡ []) × (row.old.items ≡ [])) }

@@ -1,14 +1,21 @@
 //! The operations on polynomials of a book.
 
-ghost use Rattle.std.specs.Prelude.{◌≡◌, ◌++◌, OnOk, OnErr};
-ghost use Rattle.dz_algebra.specs.Size.{operation, sum_answer, difference_answer};
+ghost use Rattle.std.specs.Prelude.{◌≡◌, ◌≢◌, ◌≤◌, ◌++◌, pos, unsigned_abs, OnOk, OnErr};
+ghost use Rattle.dz_algebra.specs.Amount.{greatest};
+ghost use Rattle.dz_algebra.specs.Size.{operation, sum_answer, difference_answer, product_answer};
 ghost use Rattle.dz_poly.specs.Books.{Gives, IsKept, Lives, polynomial};
 ghost use Rattle.dz_poly.specs.Ranked.{symbols_under};
 ghost use Rattle.dz_poly.specs.Signs.{with_sign};
+ghost use Rattle.dz_poly.specs.Terms.{power_term};
+ghost use Rattle.dz_rank.specs.Symbols.{BelongsTo};
 
 use crate::PolyStop;
 use crate::book::{Book, Poly};
+use crate::factors::factor;
+use crate::making::zero;
+use crate::products::product;
 use crate::sums::{Sign, sum};
+use dz_rank::Symbol;
 
 /// The sum of two polynomials, the second taken with a sign.
 fn keep_sum(book: &mut Book, a: Poly, sign: Sign, b: Poly) -> Result<Poly, PolyStop>
@@ -53,4 +60,42 @@ pub fn sub(book: &mut Book, a: Poly, b: Poly) -> Result<Poly, PolyStop>
     ensures refused { OnErr result (book.new ≡ book.old) }
 {
     keep_sum(book, a, Sign::Minus, b)
+}
+
+/// The product.
+pub fn mul(book: &mut Book, a: Poly, b: Poly) -> Result<Poly, PolyStop>
+    requires first { Lives book.old a }
+    requires second { Lives book.old b }
+    ensures product { Gives book.new result (product_answer (symbols_under book.old.ranking)
+        (polynomial book.old a) (polynomial book.old b)) }
+    ensures kept { OnOk result (IsKept book.old book.new) }
+    ensures refused { OnErr result (book.new ≡ book.old) }
+{
+    let product = product(
+        book.allocator(),
+        book.ranking(),
+        book.entry(a),
+        book.entry(b),
+    )?;
+    Ok(book.keep(product)?)
+}
+
+#[tactic(auto, using(crate::proofs::Multiplying::times_zero, crate::proofs::Multiplying::order_refused,))]
+/// The product with `c * s^k`, where `c` is in range and not zero.
+pub fn mul_term(book: &mut Book, a: Poly, c: i128, s: Symbol, k: u16) -> Result<Poly, PolyStop>
+    requires lives { Lives book.old a }
+    requires nonzero { c ≢ pos 0 }
+    requires in_range { unsigned_abs c ≤ greatest }
+    requires belongs { BelongsTo book.old.ranking.signature s }
+    ensures product { Gives book.new result (product_answer (symbols_under book.old.ranking)
+        (power_term c s k) (polynomial book.old a)) }
+    ensures kept { OnOk result (IsKept book.old book.new) }
+    ensures refused { OnErr result (book.new ≡ book.old) }
+{
+    if book.entry(a).terms.is_empty() {
+        return zero(book);
+    }
+    let factor = factor(book.allocator(), c, s, k)?;
+    let product = product(book.allocator(), book.ranking(), &factor, book.entry(a))?;
+    Ok(book.keep(product)?)
 }

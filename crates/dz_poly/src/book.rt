@@ -23,6 +23,22 @@ impl Model for Poly {
     ghost inverse = { λ n. record { index = n } };
 }
 
+/// The place up to which a book is filled.
+#[derive(Clone, Copy, Debug, PartialEq, Eq)]
+pub struct BookMark {
+    count: usize,
+}
+
+impl Model for BookMark {
+    ghost use Rattle.std.specs.Prelude.{ℕ};
+
+    ghost Value = { ℕ };
+
+    ghost view = { λ m. m.count };
+
+    ghost inverse = { λ n. record { count = n } };
+}
+
 /// A ranking, and polynomials under it.
 ///
 /// Every polynomial in a book is canonical under the ranking, its symbols belong to the signature,
@@ -42,15 +58,17 @@ impl Model for Book {
 
     ghost Value = { BookValue };
 
-    ghost view = { λ b. record { ranking = b.ranking;
-        polynomials = map (λ e. e.terms.items) b.entries.items } };
+    ghost view = { λ b. record {
+      ranking = b.ranking;
+      polynomials = map (λ e. e.terms.items) b.entries.items;
+    } };
 
     ghost invariant = { λ b.
         All (λ e. IsEntry b.ranking e.terms.items e.degrees.items) b.entries.items };
 }
 
 impl Book {
-    ghost use Rattle.std.specs.Prelude.{◌≡◌, [], IfOk, OnOk, OnErr};
+    ghost use Rattle.std.specs.Prelude.{◌≡◌, ◌≤◌, [], length, take, IfOk, OnOk, OnErr};
     ghost use Rattle.dz_poly.specs.Books.{BookValue, IsBook, IsKept, Lives, Means, polynomial};
     ghost use Rattle.dz_poly.specs.Entries.{IsEntry};
 
@@ -77,6 +95,26 @@ impl Book {
         ensures { IsBook self.now }
     {
         let _ = &self.entries;
+    }
+
+    /// The mark of the polynomials that the book has now.
+    pub fn mark(&self) -> BookMark
+        ensures { result ≡ length self.now.polynomials }
+    {
+        BookMark {
+            count: self.entries.len(),
+        }
+    }
+
+    /// Gives up the polynomials that were made after the mark; the older ones are as before.
+    pub fn restore(&mut self, mark: BookMark)
+        requires { mark ≤ length self.old.polynomials }
+        ensures { self.new ≡ record {
+          ranking = self.old.ranking;
+          polynomials = take mark self.old.polynomials;
+        } }
+    {
+        self.entries.truncate(mark.count);
     }
 
     pub(crate) fn allocator(&self) -> Global {

@@ -31,8 +31,11 @@ impl Model for Cell {
 
     ghost Value = { Monomial Symbol × Option Amount };
 
-    ghost view = { λ c. (c.powers.items, cond c.wide None
-        (Some (record { total = c.total; majorant = c.majorant }))) };
+    ghost view = { λ c. (
+      c.powers.items,
+      cond c.wide None
+          (Some (record { total = c.total; majorant = c.majorant })),
+    ) };
 
     ghost invariant = { λ c. (unsigned_abs c.total ≤ c.majorant) × (c.majorant ≤ greatest) };
 }

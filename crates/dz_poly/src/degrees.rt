@@ -13,21 +13,19 @@ use smallvec::SmallVec;
 use std::alloc::{AllocError, Global};
 use std::cmp::Ordering;
 
-#[tactic(auto, using(
-    crate::proofs::Places::there,
-    crate::proofs::Places::missing,
-    crate::proofs::Places::last,
-))]
+#[tactic(auto, using(crate::proofs::Places::there, crate::proofs::Places::missing, crate::proofs::Places::last,))]
 /// The place of a symbol in a falling table, or the place at which it is missing.
 fn place_of(ranking: &Ranking, table: &[(Symbol, u16)], symbol: Symbol) -> Result<usize, usize>
     ensures found { IfOk result (λ i. (e : ℕ)
         → put (ranking_cmp ranking.now) max symbol e table.now
-            ≡ set table.now i ((get_or table.now i (symbol, 0)).0,
-                max e (get_or table.now i (symbol, 0)).1)) }
+        ≡ set table.now i (
+          (get_or table.now i (symbol, 0)).0,
+          max e (get_or table.now i (symbol, 0)).1,
+        )) }
     ensures inside { IfOk result (λ i. i < length table.now) }
     ensures missing { IfErr result (λ i. (e : ℕ)
         → put (ranking_cmp ranking.now) max symbol e table.now
-            ≡ insert table.now i (symbol, e)) }
+        ≡ insert table.now i (symbol, e)) }
     ensures in_reach { IfErr result (λ i. i ≤ length table.now) }
 {
     let mut place = 0;

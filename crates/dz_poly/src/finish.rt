@@ -94,12 +94,12 @@ pub(crate) fn conclude(
     requires { IsSupport (ranking_cmp ranking.now) support.degrees.items support.cells.items }
     ensures ok { IfOk result (λ entry.
         concluded (limit_by total_order support.degrees.items (length support.cells.items))
-            (finished support.cells.items) ≡ Ok entry.terms.items) }
+        (finished support.cells.items) ≡ Ok entry.terms.items) }
     ensures degrees { IfOk result (λ entry.
         entry.degrees.items ≡ degrees (ranking_cmp ranking.now) entry.terms.items) }
     ensures refused { IfErr result (λ e. IsStop e
         (concluded (limit_by total_order support.degrees.items (length support.cells.items))
-            (finished support.cells.items))) }
+        (finished support.cells.items))) }
 {
     let Support { degrees, cells } = support;
     if let Some(limit) = limit_of_size(degrees.len(), cells.len()) {

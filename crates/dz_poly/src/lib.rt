@@ -10,20 +10,28 @@ mod absorb;
 mod arithmetic;
 mod book;
 mod cell;
+mod coefficients;
 mod degrees;
+mod dividing;
 mod entry;
+mod factors;
 mod finish;
 mod making;
 mod powers;
 mod products;
+mod reading;
 mod sums;
 mod term;
 
-pub use arithmetic::{add, sub};
-pub use book::{Book, Poly};
+pub use arithmetic::{add, mul, mul_term, sub};
+pub use book::{Book, BookMark, Poly};
+pub use coefficients::coefficient_of;
+pub use dividing::{exact_div_int, normalise};
 pub use dz_algebra::Limit;
 pub use making::{constant, symbol_poly, zero};
-
+pub use reading::{
+    coefficient_at, degree_in, exponent_at, same, symbol_at, symbol_count, term_count,
+};
 use std::alloc::{AllocError, AllocFailed};
 use thiserror::Error;
 

@@ -18,12 +18,7 @@ use dz_rank::Symbol;
 use smallvec::SmallVec;
 use std::alloc::{AllocError, Global};
 
-#[tactic(auto, using(
-    crate::proofs::OneTerm::number_entry,
-    crate::proofs::OneTerm::no_entry,
-    crate::proofs::OneTerm::number_is,
-    crate::proofs::OneTerm::no_number,
-))]
+#[tactic(auto, using(crate::proofs::OneTerm::number_entry, crate::proofs::OneTerm::no_entry, crate::proofs::OneTerm::number_is, crate::proofs::OneTerm::no_number,))]
 /// A number as a polynomial.
 pub(crate) fn number(alloc: Global, value: i128) -> Result<Entry, AllocError>
     requires in_range { unsigned_abs value ≤ greatest }

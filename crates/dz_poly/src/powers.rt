@@ -1,8 +1,8 @@
 //! Monomials: symbols with their exponents, the greatest symbol first.
 
-ghost use Rattle.std.specs.Prelude.{◌≡◌, ◌⊎◌, ◌+◌, max, false, true, IfOk, IfErr};
+ghost use Rattle.std.specs.Prelude.{◌≡◌, ◌⊎◌, ◌+◌, ◌++◌, [], ◌∷◌, max, false, true, IfOk, IfErr, OnOk};
 ghost use Rattle.dz_algebra.specs.Gather.{merge};
-ghost use Rattle.dz_algebra.specs.Monomial.{IsMonomial, exponent, monomial_cmp};
+ghost use Rattle.dz_algebra.specs.Monomial.{IsMonomial, exponent, monomial_cmp, without};
 ghost use Rattle.dz_algebra.specs.declared.Limit.TheVariants.{Exponent};
 ghost use Rattle.dz_poly.specs.Degrees.{has_high_exponent};
 ghost use Rattle.dz_poly.specs.declared.PolyStop.TheVariants.{Memory, Large};
@@ -54,13 +54,7 @@ pub(crate) fn exponent_of(ranking: &Ranking, powers: &[(Symbol, u16)], symbol: S
     0
 }
 
-#[tactic(auto, using(
-    crate::proofs::MonomialPasses::ended,
-    crate::proofs::MonomialPasses::exceeds,
-    crate::proofs::MonomialPasses::low_rest,
-    crate::proofs::MonomialPasses::low_push,
-    crate::proofs::MonomialPasses::low_end,
-))]
+#[tactic(auto, using(crate::proofs::MonomialPasses::ended, crate::proofs::MonomialPasses::exceeds, crate::proofs::MonomialPasses::low_rest, crate::proofs::MonomialPasses::low_push, crate::proofs::MonomialPasses::low_end,))]
 /// The product of two monomials, where its exponents are in range.
 pub(crate) fn multiply(
     alloc: Global,
@@ -156,4 +150,38 @@ pub(crate) fn common_multiple(
             }
         }
     }
+}
+
+/// Appends a power, unless it is one of the symbol.
+fn push_other(
+    ranking: &Ranking,
+    all: &mut Powers,
+    power: (Symbol, u16),
+    symbol: Symbol,
+) -> Result<(), AllocError>
+    ensures { OnOk result (all.new.items
+        ≡ all.old.items ++ without (ranking_cmp ranking.now) symbol (power ∷ [])) }
+{
+    match ranking.compare(symbol, power.0) {
+        Ordering::Equal => {}
+        _ => all.push(power)?,
+    }
+    Ok(())
+}
+
+/// The monomial without a symbol.
+pub(crate) fn without_symbol(
+    alloc: Global,
+    ranking: &Ranking,
+    powers: &[(Symbol, u16)],
+    symbol: Symbol,
+) -> Result<Powers, AllocError>
+    ensures { IfOk result (λ all.
+        all.items ≡ without (ranking_cmp ranking.now) symbol powers.now) }
+{
+    let mut all = SmallVec::new(alloc);
+    for power in powers {
+        push_other(ranking, &mut all, *power, symbol)?;
+    }
+    Ok(all)
 }

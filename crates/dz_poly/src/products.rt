@@ -49,7 +49,7 @@ fn row_cells(
         ≡ caps (amounts (term_times (ranking_cmp ranking.now) term.now.0 term.now.1 q.now))) }
     ensures refused { IfErr result (λ e. (e ≡ Memory) ⊎ ((e ≡ Large Exponent)
         × (has_high_exponent (degrees (ranking_cmp ranking.now)
-            (term_times (ranking_cmp ranking.now) term.now.0 term.now.1 q.now)) ≡ true))) }
+        (term_times (ranking_cmp ranking.now) term.now.0 term.now.1 q.now)) ≡ true))) }
 {
     let mut cells = VecDeque::new(alloc);
     for other in q {
@@ -77,7 +77,7 @@ fn product_cells(
         (pairs (ranking_cmp ranking.now) p.now q.now))) }
     ensures refused { IfErr result (λ e. (e ≡ Memory) ⊎ ((e ≡ Large Terms)
         × (4096 < length (gathered (ranking_cmp ranking.now)
-            (pairs (ranking_cmp ranking.now) p.now q.now))))) }
+        (pairs (ranking_cmp ranking.now) p.now q.now))))) }
 {
     let mut cells = VecDeque::new(alloc);
     for i in 0..p.len() {
@@ -115,12 +115,7 @@ fn product_support(
     Ok(Support { degrees, cells })
 }
 
-#[tactic(auto, using(
-    crate::proofs::Multiplying::left_zero,
-    crate::proofs::Multiplying::right_zero,
-    crate::proofs::Multiplying::zero_entry,
-    crate::proofs::Multiplying::not_zero,
-))]
+#[tactic(auto, using(crate::proofs::Multiplying::left_zero, crate::proofs::Multiplying::right_zero, crate::proofs::Multiplying::zero_entry, crate::proofs::Multiplying::not_zero,))]
 /// The product of two polynomials.
 pub(crate) fn product(
     alloc: Global,
@@ -132,7 +127,7 @@ pub(crate) fn product(
     requires second { IsEntry ranking.now q.now.terms.items q.now.degrees.items }
     ensures ok { IfOk result (λ product. operation (symbols_under ranking.now)
         (pairs (ranking_cmp ranking.now) p.now.terms.items q.now.terms.items)
-            ≡ Ok product.terms.items) }
+        ≡ Ok product.terms.items) }
     ensures entry { IfOk result (λ product.
         IsEntry ranking.now product.terms.items product.degrees.items) }
     ensures refused { IfErr result (λ e. IsStop e (operation (symbols_under ranking.now)
