@@ -38,9 +38,10 @@ module _ {E : Type 0} {o : Operations E} (laws : DomainLaws o) where
 
   -- the test answers true exactly at zero
   tested : (a : Value o) → IsTrue (value_is_zero a) ↔ (a ≡ r.zero)
-  tested a =
-      (λ e. same_value o a r.zero ((laws.is_zero_at_zero a.0 a.1).0 e), λ e.
-      (laws.is_zero_at_zero a.0 a.1).1 (ap (λ x. x.0) e))
+  tested a = (
+    λ e. same_value o a r.zero ((laws.is_zero_at_zero a.0 a.1).0 e),
+    λ e. (laws.is_zero_at_zero a.0 a.1).1 (ap (λ x. x.0) e),
+  )
 
   -- the elements of a list of values
   abbrev elements : List (Value o) → List E
@@ -97,10 +98,10 @@ module _ {E : Type 0} {o : Operations E} (laws : DomainLaws o) where
   elements_product [] B = refl
   elements_product (a ∷ A) B =
       elements_sum (list_multiple value_is_zero (values_arithmetic laws) a B)
-          (attach value_is_zero r.zero (value_product A B))
+      (attach value_is_zero r.zero (value_product A B))
       ∙ ap₂ element_sum (elements_multiple a B)
-          (elements_attach r.zero (value_product A B)
-          ∙ ap (attach o.is_zero o.zero) (elements_product A B))
+      (elements_attach r.zero (value_product A B)
+      ∙ ap (attach o.is_zero o.zero) (elements_product A B))
 
   -- what is done to each member keeps elements
   elements_each : (f : Value o → Value o) (g : E → E) → ((x : Value o) → (f x).0 ≡ g x.0)
@@ -118,10 +119,10 @@ module _ {E : Type 0} {o : Operations E} (laws : DomainLaws o) where
   elements_derivative [] = refl
   elements_derivative (a ∷ A) =
       elements_sum A (attach value_is_zero r.zero
-          (list_derivative value_is_zero (values_arithmetic laws) A))
+      (list_derivative value_is_zero (values_arithmetic laws) A))
       ∙ ap (element_sum (elements A))
-          (elements_attach r.zero (list_derivative value_is_zero (values_arithmetic laws) A)
-          ∙ ap (attach o.is_zero o.zero) (elements_derivative A))
+      (elements_attach r.zero (list_derivative value_is_zero (values_arithmetic laws) A)
+      ∙ ap (attach o.is_zero o.zero) (elements_derivative A))
 
   -- every value of the new domain is such a list
   values_of : (A : List E) → each_passes o.is_value A ≡ true → List (Value o)
@@ -169,7 +170,7 @@ module _ {E : Type 0} {o : Operations E} (laws : DomainLaws o) where
       let g : ends_nonzero o.is_zero A ≡ true = and_right (each_passes o.is_value A) _ v in
       let e : elements (values_of A h) ≡ A = elements_of_values A h in
       subst P e (f (values_of A h) (sym (ends_elements (values_of A h))
-          ∙ ap (ends_nonzero o.is_zero) e ∙ g))
+      ∙ ap (ends_nonzero o.is_zero) e ∙ g))
 
   -- the same for two
   by_values₂ : (P : List E → List E → Type 0)
@@ -238,11 +239,11 @@ module _ {E : Type 0} {o : Operations E} (laws : DomainLaws o) where
       → value_sum (value_sum A B) C ≡ value_sum A (value_sum B C)
   value_sum_associates A B C h g k =
       same (value_sum (value_sum A B) C) (value_sum A (value_sum B C))
-          (ends_sum (value_sum A B) C (ends_sum A B h g) k)
-          (ends_sum A (value_sum B C) h (ends_sum B C g k))
+      (ends_sum (value_sum A B) C (ends_sum A B h g) k)
+      (ends_sum A (value_sum B C) h (ends_sum B C g k))
       (λ n. at_sum (value_sum A B) C n ∙ ap (λ x. r.sum x (at C n)) (at_sum A B n)
-          ∙ r.sum_associates _ _ _ ∙ ap (r.sum (at A n)) (sym (at_sum B C n))
-          ∙ sym (at_sum A (value_sum B C) n))
+      ∙ r.sum_associates _ _ _ ∙ ap (r.sum (at A n)) (sym (at_sum B C n))
+      ∙ sym (at_sum A (value_sum B C) n))
 
   -- the sum is associative
   sum_associates : (A B C : List E) → IsList A → IsList B → IsList C
@@ -251,15 +252,10 @@ module _ {E : Type 0} {o : Operations E} (laws : DomainLaws o) where
       by_values₃ (λ A B C. element_sum (element_sum A B) C ≡ element_sum A (element_sum B C))
       (λ A B C h g k.
       ap (λ X. element_sum X (elements C)) (sym (elements_sum A B))
-          ∙ sym (elements_sum (value_sum A B) C) ∙ ap elements (value_sum_associates A B C h g k)
-          ∙ elements_sum A (value_sum B C) ∙ ap (element_sum (elements A)) (elements_sum B C))
+      ∙ sym (elements_sum (value_sum A B) C) ∙ ap elements (value_sum_associates A B C h g k)
+      ∙ elements_sum A (value_sum B C) ∙ ap (element_sum (elements A)) (elements_sum B C))
 
   -- ---- the constants
-
-  -- zero is neutral
-  elements_neutral : (A : List (Value o)) → IsTrue (ends_nonzero value_is_zero A)
-      → value_sum [] A ≡ A
-  elements_neutral A h = refl
 
   -- one does not pass the test for zero
   one_not_zero : o.is_zero o.one ≡ false
@@ -275,10 +271,6 @@ module _ {E : Type 0} {o : Operations E} (laws : DomainLaws o) where
   -- one as a list of values
   abbrev value_one : List (Value o)
   value_one = r.one ∷ []
-
-  -- one does not end in zero
-  value_one_ends : IsTrue (ends_nonzero value_is_zero value_one)
-  value_one_ends = ap not one_not_zero
 
   -- the test for zero answers true exactly at zero
   is_zero_at_zero : (A : List E) → IsList A → IsTrue (list_is_zero A) ↔ (A ≡ [])
@@ -309,11 +301,11 @@ module _ {E : Type 0} {o : Operations E} (laws : DomainLaws o) where
       → value_sum (value_negative A) A ≡ []
   value_negative_is_inverse A h =
       same (value_sum (value_negative A) A) []
-          (ends_sum (value_negative A) A (each_ends r value_is_zero tested r.negative A) h) refl
+      (ends_sum (value_negative A) A (each_ends r value_is_zero tested r.negative A) h) refl
       (λ n. at_sum (value_negative A) A n
-          ∙ ap (λ x. r.sum x (at A n))
-          (coefficient_each r value_is_zero tested r.negative negative_of_zero A n)
-          ∙ r.negative_is_inverse _)
+      ∙ ap (λ x. r.sum x (at A n))
+      (coefficient_each r value_is_zero tested r.negative negative_of_zero A n)
+      ∙ r.negative_is_inverse _)
 
   -- the negative is inverse
   negative_is_inverse : (A : List E) → IsList A → element_sum (element_negative A) A ≡ []
@@ -344,13 +336,13 @@ module _ {E : Type 0} {o : Operations E} (laws : DomainLaws o) where
   value_product_associates A B C =
       let left : at (value_product A B) ≡ convolution r (at A) (at B) = λ i n. at_product A B n i in
       let right : at (value_product B C) ≡ convolution r (at B) (at C) =
-          λ i n. at_product B C n i in
+      λ i n. at_product B C n i in
       same (value_product (value_product A B) C) (value_product A (value_product B C))
-          (ends_product (value_product A B) C) (ends_product A (value_product B C))
+      (ends_product (value_product A B) C) (ends_product A (value_product B C))
       (λ n. at_product (value_product A B) C n ∙ ap (λ f. convolution r f (at C) n) left
-          ∙ convolution_associates r (at A) (at B) (at C) n
-          ∙ ap (λ f. convolution r (at A) f n) (sym right)
-          ∙ sym (at_product A (value_product B C) n))
+      ∙ convolution_associates r (at A) (at B) (at C) n
+      ∙ ap (λ f. convolution r (at A) f n) (sym right)
+      ∙ sym (at_product A (value_product B C) n))
 
   -- the product is associative
   product_associates : (A B C : List E) → IsList A → IsList B → IsList C
@@ -359,9 +351,9 @@ module _ {E : Type 0} {o : Operations E} (laws : DomainLaws o) where
       by_values₃ (λ A B C. element_product (element_product A B) C
       ≡ element_product A (element_product B C)) (λ A B C h g k.
       ap (λ X. element_product X (elements C)) (sym (elements_product A B))
-          ∙ sym (elements_product (value_product A B) C)
-          ∙ ap elements (value_product_associates A B C) ∙ elements_product A (value_product B C)
-          ∙ ap (element_product (elements A)) (elements_product B C))
+      ∙ sym (elements_product (value_product A B) C)
+      ∙ ap elements (value_product_associates A B C) ∙ elements_product A (value_product B C)
+      ∙ ap (element_product (elements A)) (elements_product B C))
 
   -- the product of lists of values distributes over the sum
   value_product_distributes : (A B C : List (Value o)) → IsTrue (ends_nonzero value_is_zero B)
@@ -370,12 +362,12 @@ module _ {E : Type 0} {o : Operations E} (laws : DomainLaws o) where
   value_product_distributes A B C g k =
       let summed : at (value_sum B C) ≡ (λ n. r.sum (at B n) (at C n)) = λ i n. at_sum B C n i in
       same (value_product A (value_sum B C)) (value_sum (value_product A B) (value_product A C))
-          (ends_product A (value_sum B C))
-          (ends_sum (value_product A B) (value_product A C) (ends_product A B) (ends_product A C))
+      (ends_product A (value_sum B C))
+      (ends_sum (value_product A B) (value_product A C) (ends_product A B) (ends_product A C))
       (λ n. at_product A (value_sum B C) n ∙ ap (λ f. convolution r (at A) f n) summed
-          ∙ convolution_sum r (at A) (at B) (at C) n
-          ∙ ap₂ r.sum (sym (at_product A B n)) (sym (at_product A C n))
-          ∙ sym (at_sum (value_product A B) (value_product A C) n))
+      ∙ convolution_sum r (at A) (at B) (at C) n
+      ∙ ap₂ r.sum (sym (at_product A B n)) (sym (at_product A C n))
+      ∙ sym (at_sum (value_product A B) (value_product A C) n))
 
   -- the product distributes over the sum
   product_distributes : (A B C : List E) → IsList A → IsList B → IsList C
@@ -385,10 +377,10 @@ module _ {E : Type 0} {o : Operations E} (laws : DomainLaws o) where
       by_values₃ (λ A B C. element_product A (element_sum B C)
       ≡ element_sum (element_product A B) (element_product A C)) (λ A B C h g k.
       ap (element_product (elements A)) (sym (elements_sum B C))
-          ∙ sym (elements_product A (value_sum B C))
-          ∙ ap elements (value_product_distributes A B C g k)
-          ∙ elements_sum (value_product A B) (value_product A C)
-          ∙ ap₂ element_sum (elements_product A B) (elements_product A C))
+      ∙ sym (elements_product A (value_sum B C))
+      ∙ ap elements (value_product_distributes A B C g k)
+      ∙ elements_sum (value_product A B) (value_product A C)
+      ∙ ap₂ element_sum (elements_product A B) (elements_product A C))
 
   -- one times a series
   one_convolution : (f : ℕ → Value o) (n : ℕ) → convolution r (at value_one) f n ≡ f n
@@ -421,8 +413,8 @@ module _ {E : Type 0} {o : Operations E} (laws : DomainLaws o) where
   no_zero_divisors =
       by_values₂ (λ A B. element_product A B ≡ [] → (A ≡ []) ⊎ (B ≡ [])) (λ A B h g e.
       elim (list_divisors r value_is_zero tested divisors A B h g
-          (no_elements (value_product A B) (elements_product A B ∙ e)))
-          [ inl k ↦ inl (ap elements k) | inr k ↦ inr (ap elements k) ])
+      (no_elements (value_product A B) (elements_product A B ∙ e)))
+      [ inl k ↦ inl (ap elements k) | inr k ↦ inr (ap elements k) ])
 
   -- ---- copies
 
@@ -459,12 +451,12 @@ module _ {E : Type 0} {o : Operations E} (laws : DomainLaws o) where
       by_values (λ A. copies (adjoin_arithmetic o.is_zero o.arithmetic) (suc m) A ≡ [] → A ≡ [])
       (λ A h e.
       let none : copies value_arithmetic (suc m) A ≡ [] =
-          no_elements (copies value_arithmetic (suc m) A) (elements_copies (suc m) A ∙ e) in
+      no_elements (copies value_arithmetic (suc m) A) (elements_copies (suc m) A ∙ e) in
       ap elements (same A [] h refl (λ n.
       let k : copies (values_arithmetic laws) (suc m) (at A n) ≡ r.zero =
-          sym (at_copies (suc m) A n) ∙ ap (λ X. at X n) none in
+      sym (at_copies (suc m) A n) ∙ ap (λ X. at X n) none in
       same_value o (at A n) r.zero (laws.characteristic_is_zero m (at A n).0 (at A n).1
-          (sym (element_of_copies (suc m) (at A n)) ∙ ap (λ x. x.0) k)))))
+      (sym (element_of_copies (suc m) (at A n)) ∙ ap (λ x. x.0) k)))))
 
   -- ---- derivations
 
@@ -534,7 +526,7 @@ module _ {E : Type 0} {o : Operations E} (laws : DomainLaws o) where
   derivation i true e = old_derivation i (ltb-true i o.derivations e)
   derivation i false e = new_derivation
 
-  -- what a lifted derivation keeps
+  -- what each derivation of lists keeps
   module _ (D : List E → List E) (l : ListDerivation D) where
     -- it makes values
     derivation_is_list : (A : List E) → IsList A → IsList (D A)
@@ -549,10 +541,10 @@ module _ {E : Type 0} {o : Operations E} (laws : DomainLaws o) where
         let summed : at (value_sum A B) ≡ (λ n. r.sum (at A n) (at B n)) = λ i n. at_sum A B n i in
         ap D (sym (elements_sum A B)) ∙ sym (l.elements_on (value_sum A B))
         ∙ ap elements (same (l.on (value_sum A B)) (value_sum (l.on A) (l.on B))
-            (l.ends_on (value_sum A B) (ends_sum A B h g))
-            (ends_sum (l.on A) (l.on B) (l.ends_on A h) (l.ends_on B g))
+        (l.ends_on (value_sum A B) (ends_sum A B h g))
+        (ends_sum (l.on A) (l.on B) (l.ends_on A h) (l.ends_on B g))
         (λ n. l.at_on (value_sum A B) n ∙ ap (λ f. l.acts f n) summed ∙ l.acts_sum (at A) (at B) n
-            ∙ ap₂ r.sum (sym (l.at_on A n)) (sym (l.at_on B n)) ∙ sym (at_sum (l.on A) (l.on B) n)))
+        ∙ ap₂ r.sum (sym (l.at_on A n)) (sym (l.at_on B n)) ∙ sym (at_sum (l.on A) (l.on B) n)))
         ∙ elements_sum (l.on A) (l.on B) ∙ ap₂ element_sum (l.elements_on A) (l.elements_on B))
 
     -- it obeys Leibniz' rule
@@ -562,24 +554,24 @@ module _ {E : Type 0} {o : Operations E} (laws : DomainLaws o) where
         by_values₂ (λ A B. D (element_product A B)
         ≡ element_sum (element_product (D A) B) (element_product A (D B))) (λ A B h g.
         let multiplied : at (value_product A B) ≡ convolution r (at A) (at B) =
-            λ i n. at_product A B n i in
+        λ i n. at_product A B n i in
         let on_A : at (l.on A) ≡ l.acts (at A) = λ i n. l.at_on A n i in
         let on_B : at (l.on B) ≡ l.acts (at B) = λ i n. l.at_on B n i in
         let X = value_product (l.on A) B in
         let Y = value_product A (l.on B) in
         ap D (sym (elements_product A B)) ∙ sym (l.elements_on (value_product A B))
         ∙ ap elements (same (l.on (value_product A B)) (value_sum X Y)
-            (l.ends_on (value_product A B) (ends_product A B))
-            (ends_sum X Y (ends_product (l.on A) B) (ends_product A (l.on B)))
+        (l.ends_on (value_product A B) (ends_product A B))
+        (ends_sum X Y (ends_product (l.on A) B) (ends_product A (l.on B)))
         (λ n. l.at_on (value_product A B) n ∙ ap (λ f. l.acts f n) multiplied
-            ∙ l.acts_product (at A) (at B) n
+        ∙ l.acts_product (at A) (at B) n
         ∙ ap₂ r.sum (ap (λ f. convolution r f (at B) n) (sym on_A) ∙ sym (at_product (l.on A) B n))
-            (ap (λ f. convolution r (at A) f n) (sym on_B) ∙ sym (at_product A (l.on B) n))
+        (ap (λ f. convolution r (at A) f n) (sym on_B) ∙ sym (at_product A (l.on B) n))
         ∙ sym (at_sum X Y n)))
         ∙ elements_sum X Y ∙ ap₂ element_sum
-            (elements_product (l.on A) B
-            ∙ ap (λ Z. element_product Z (elements B)) (l.elements_on A))
-            (elements_product A (l.on B) ∙ ap (element_product (elements A)) (l.elements_on B)))
+        (elements_product (l.on A) B
+        ∙ ap (λ Z. element_product Z (elements B)) (l.elements_on A))
+        (elements_product A (l.on B) ∙ ap (element_product (elements A)) (l.elements_on B)))
 
     -- it commutes with each that it commutes with on series
     derivation_commutes : (D' : List E → List E) (k : ListDerivation D')
@@ -590,16 +582,16 @@ module _ {E : Type 0} {o : Operations E} (laws : DomainLaws o) where
         let on_k : at (k.on A) ≡ k.acts (at A) = λ i n. k.at_on A n i in
         ap D (sym (k.elements_on A)) ∙ sym (l.elements_on (k.on A))
         ∙ ap elements (same (l.on (k.on A)) (k.on (l.on A)) (l.ends_on (k.on A) (k.ends_on A h))
-            (k.ends_on (l.on A) (l.ends_on A h))
+        (k.ends_on (l.on A) (l.ends_on A h))
         (λ n. l.at_on (k.on A) n ∙ ap (λ f. l.acts f n) on_k ∙ e (at A) n
-            ∙ ap (λ f. k.acts f n) (sym on_l) ∙ sym (k.at_on (l.on A) n)))
+        ∙ ap (λ f. k.acts f n) (sym on_l) ∙ sym (k.at_on (l.on A) n)))
         ∙ k.elements_on (l.on A) ∙ ap D' (l.elements_on A))
 
   -- any two derivations commute on series
   acts_commute : (i j : ℕ) (b c : Bool) (e : ltb i o.derivations ≡ b) (f : ltb j o.derivations ≡ c)
       (s : ℕ → Value o) (n : ℕ)
       → (derivation i b e).acts ((derivation j c f).acts s) n
-          ≡ (derivation j c f).acts ((derivation i b e).acts s) n
+      ≡ (derivation j c f).acts ((derivation i b e).acts s) n
   acts_commute i j true true e f s n =
       same_value o _ _ (laws.derivatives_commute i j (s n).0 (ltb-true i o.derivations e)
       (ltb-true j o.derivations f) (s n).1)

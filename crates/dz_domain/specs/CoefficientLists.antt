@@ -57,13 +57,13 @@ module _ {R : Type 0} (r : Ring R) (is_zero : R → Bool)
   coefficient_product (a ∷ A) B zero =
       let P = list_product is_zero r.arithmetic A B in
       coefficient_sum (list_multiple is_zero r.arithmetic a B) (attach is_zero r.zero P) zero
-          ∙ ap₂ r.sum (coefficient_multiple a B zero) (coefficient_attach r.zero P zero)
-          ∙ right_neutral r _
+      ∙ ap₂ r.sum (coefficient_multiple a B zero) (coefficient_attach r.zero P zero)
+      ∙ right_neutral r _
   coefficient_product (a ∷ A) B (suc n) =
       let P = list_product is_zero r.arithmetic A B in
       coefficient_sum (list_multiple is_zero r.arithmetic a B) (attach is_zero r.zero P) (suc n)
-          ∙ ap₂ r.sum (coefficient_multiple a B (suc n))
-          (coefficient_attach r.zero P (suc n) ∙ coefficient_product A B n)
+      ∙ ap₂ r.sum (coefficient_multiple a B (suc n))
+      (coefficient_attach r.zero P (suc n) ∙ coefficient_product A B n)
 
   -- the derivative of zero is zero
   series_derivative_zero : (n : ℕ) → series_derivative r (λ _. r.zero) n ≡ r.zero
@@ -78,13 +78,13 @@ module _ {R : Type 0} (r : Ring R) (is_zero : R → Bool)
   coefficient_derivative (a ∷ A) zero =
       let P = list_derivative is_zero r.arithmetic A in
       coefficient_sum A (attach is_zero r.zero P) zero
-          ∙ ap (r.sum (coefficient r.zero A zero)) (coefficient_attach r.zero P zero)
-          ∙ right_neutral r _
+      ∙ ap (r.sum (coefficient r.zero A zero)) (coefficient_attach r.zero P zero)
+      ∙ right_neutral r _
   coefficient_derivative (a ∷ A) (suc n) =
       let P = list_derivative is_zero r.arithmetic A in
       coefficient_sum A (attach is_zero r.zero P) (suc n)
-          ∙ ap (r.sum (coefficient r.zero A (suc n)))
-          (coefficient_attach r.zero P (suc n) ∙ coefficient_derivative A n)
+      ∙ ap (r.sum (coefficient r.zero A (suc n)))
+      (coefficient_attach r.zero P (suc n) ∙ coefficient_derivative A n)
 
   -- ---- lists that do not end in zero
 
@@ -184,9 +184,9 @@ module _ {R : Type 0} (r : Ring R) (is_zero : R → Bool)
           | inl a ↦ absurd (h a)
           | inr c ↦ all_zero (coefficient r.zero (b ∷ B)) c
               (second_zero f B h (λ k. sym (r.zero_is_neutral _)
-                  ∙ ap (λ x. r.sum x (convolution r f (coefficient r.zero B) k))
-                  (sym (ap (r.product (f (suc k))) c ∙ product_zero r _))
-                  ∙ sym (convolution_last r f (coefficient r.zero (b ∷ B)) k) ∙ e (suc k))) n
+              ∙ ap (λ x. r.sum x (convolution r f (coefficient r.zero B) k))
+              (sym (ap (r.product (f (suc k))) c ∙ product_zero r _))
+              ∙ sym (convolution_last r f (coefficient r.zero (b ∷ B)) k) ∙ e (suc k))) n
         ]
 
     -- where the product of two series is zero, one of them is
@@ -205,9 +205,9 @@ module _ {R : Type 0} (r : Ring R) (is_zero : R → Bool)
         by_test true t rest =
             let first : a ≡ r.zero = (tested a).0 t in
             elim (rest (λ n. sym (r.zero_is_neutral _)
-                ∙ ap (λ x. r.sum x (convolution r (coefficient r.zero A) (coefficient r.zero B) n))
-                (sym (ap (λ x. r.product x (coefficient r.zero B (suc n))) first
-                ∙ zero_product r _)) ∙ e (suc n))) [
+            ∙ ap (λ x. r.sum x (convolution r (coefficient r.zero A) (coefficient r.zero B) n))
+            (sym (ap (λ x. r.product x (coefficient r.zero B (suc n))) first
+            ∙ zero_product r _)) ∙ e (suc n))) [
               | inl f ↦ inl (all_zero (coefficient r.zero (a ∷ A)) first f)
               | inr g ↦ inr g
             ]
@@ -221,7 +221,7 @@ module _ {R : Type 0} (r : Ring R) (is_zero : R → Bool)
         → (A ≡ []) ⊎ (B ≡ [])
     list_divisors A B h g e =
         elim (one_zero A B (λ n. sym (coefficient_product A B n)
-            ∙ ap (λ C. coefficient r.zero C n) e)) [
+        ∙ ap (λ C. coefficient r.zero C n) e)) [
           | inl f ↦ inl (same_coefficients A [] h refl f)
           | inr f ↦ inr (same_coefficients B [] g refl f)
         ]

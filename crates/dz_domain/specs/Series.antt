@@ -75,12 +75,12 @@ module _ {R : Type 0} (r : Ring R) where
   convolution_associates f g h (suc n) =
       ap₂ r.sum (r.product_associates (f zero) (g zero) (h (suc n)))
       (sum_convolution (λ k. r.product (f zero) (g (suc k))) (convolution (tail f) g) h n
-          ∙ ap₂ r.sum (convolution_multiple (f zero) (tail g) h n)
-          (convolution_associates (tail f) g h n))
+      ∙ ap₂ r.sum (convolution_multiple (f zero) (tail g) h n)
+      (convolution_associates (tail f) g h n))
       ∙ sym (r.sum_associates _ _ _)
-          ∙ ap (λ x. r.sum x (convolution (tail f) (convolution g h) n))
-          (sym (r.product_distributes (f zero) (r.product (g zero) (h (suc n)))
-          (convolution (tail g) h n)))
+      ∙ ap (λ x. r.sum x (convolution (tail f) (convolution g h) n))
+      (sym (r.product_distributes (f zero) (r.product (g zero) (h (suc n)))
+      (convolution (tail g) h n)))
 
   -- the derivation is additive
   pub series_derivative_sum : (f g : ℕ → R) (n : ℕ)
@@ -123,14 +123,14 @@ module _ {R : Type 0} (r : Ring R) where
   series_leibniz f g zero = r.sum_commutes _ _
   series_leibniz f g (suc n) =
       ap (r.sum _) (series_derivative_sum (λ k. r.product (f zero) (g (suc k)))
-          (convolution (tail f) g) n ∙ ap₂ r.sum (series_derivative_multiple (f zero) (tail g) n)
-          (series_leibniz (tail f) g n))
+      (convolution (tail f) g) n ∙ ap₂ r.sum (series_derivative_multiple (f zero) (tail g) n)
+      (series_leibniz (tail f) g n))
       ∙ regroup (r.product (f zero) (g (suc (suc n)))) (convolution (tail f) g (suc n))
-          (r.product (f zero) (series_derivative (tail g) n))
-          (convolution (series_derivative (tail f)) g n)
-          (convolution (tail f) (series_derivative g) n)
+      (r.product (f zero) (series_derivative (tail g) n))
+      (convolution (series_derivative (tail f)) g n)
+      (convolution (tail f) (series_derivative g) n)
       ∙ ap₂ r.sum (sym first) (ap (λ x. r.sum x (convolution (tail f) (series_derivative g) n))
-          (sym (r.product_distributes _ _ _)))
+      (sym (r.product_distributes _ _ _)))
     where
       -- five summands change places
       regroup : (a b c d e : R) → r.sum (r.sum a b) (r.sum c (r.sum d e))
@@ -146,25 +146,25 @@ module _ {R : Type 0} (r : Ring R) where
           (series_derivative_is f) (suc n)
           ∙ sum_convolution (tail f) (shifted (series_derivative (tail f))) g (suc n)
           ∙ ap (r.sum (convolution (tail f) g (suc n)))
-              (ap (λ x. r.sum x (convolution (series_derivative (tail f)) g n)) (zero_product r _)
-              ∙ r.zero_is_neutral _)
+          (ap (λ x. r.sum x (convolution (series_derivative (tail f)) g n)) (zero_product r _)
+          ∙ r.zero_is_neutral _)
 
   -- a derivation of the ring, taken of every coefficient
   module _ (d : R → R) (additive : (a b : R) → d (r.sum a b) ≡ r.sum (d a) (d b))
       (leibniz : (a b : R) → d (r.product a b) ≡ r.sum (r.product (d a) b) (r.product a (d b)))
-      where
-    -- it obeys Leibniz' rule on series
-    pub convolution_leibniz : (f g : ℕ → R) (n : ℕ)
-        → d (convolution f g n) ≡ r.sum (convolution (λ k. d (f k)) g n)
-        (convolution f (λ k. d (g k)) n)
-    convolution_leibniz f g zero = leibniz _ _
-    convolution_leibniz f g (suc n) =
-        additive _ _ ∙ ap₂ r.sum (leibniz _ _) (convolution_leibniz (tail f) g n)
-        ∙ sum_of_sums r _ _ _ _
+    where
+      -- it obeys Leibniz' rule on series
+      pub convolution_leibniz : (f g : ℕ → R) (n : ℕ)
+          → d (convolution f g n) ≡ r.sum (convolution (λ k. d (f k)) g n)
+          (convolution f (λ k. d (g k)) n)
+      convolution_leibniz f g zero = leibniz _ _
+      convolution_leibniz f g (suc n) =
+          additive _ _ ∙ ap₂ r.sum (leibniz _ _) (convolution_leibniz (tail f) g n)
+          ∙ sum_of_sums r _ _ _ _
 
-    -- it commutes with the derivation by the variable
-    pub series_derivative_commutes : (f : ℕ → R) (n : ℕ)
-        → d (series_derivative f n) ≡ series_derivative (λ k. d (f k)) n
-    series_derivative_commutes f zero = refl
-    series_derivative_commutes f (suc n) =
-        additive _ _ ∙ ap (r.sum _) (series_derivative_commutes (tail f) n)
+      -- it commutes with the derivation by the variable
+      pub series_derivative_commutes : (f : ℕ → R) (n : ℕ)
+          → d (series_derivative f n) ≡ series_derivative (λ k. d (f k)) n
+      series_derivative_commutes f zero = refl
+      series_derivative_commutes f (suc n) =
+          additive _ _ ∙ ap (r.sum _) (series_derivative_commutes (tail f) n)
