@@ -6,7 +6,8 @@ ghost use Rattle.dz_domain.specs.AdjoinLaws.{adjoin_laws};
 use crate::domain::Domain;
 use std::marker::Model;
 
-/// The coefficients of a polynomial in one variable, from the constant upwards. A contract sees the list of them.
+/// The coefficients of a polynomial in one variable, from the constant upwards. A contract sees the
+/// list of them.
 #[derive(Drop)]
 pub struct Coefficients<E> {
     list: Vec<E>,
@@ -38,9 +39,10 @@ impl<E> Coefficients<E> {
 
 /// The polynomials in one new variable over the values of a domain.
 ///
-/// A value is a list of values whose last member, where there is one, is not zero; zero is the empty list. The
-/// derivations are those of the domain, which act on each coefficient, and last the one by the new variable. The laws
-/// follow from those of the domain alone, so that an `Adjoin` of an `Adjoin` is a domain too.
+/// A value is a list of values whose last member, where there is one, is not zero; zero is the
+/// empty list. The derivations are those of the domain, which act on each coefficient, and last the
+/// one by the new variable. The laws follow from those of the domain alone, so that an `Adjoin` of
+/// an `Adjoin` is a domain too.
 #[derive(Drop)]
 pub struct Adjoin<D> {
     below: D,

@@ -1,7 +1,8 @@
 //! Differential domains of characteristic zero, and their points, as contracts speak of them.
 //!
-//! No code of the program computes with the values of a domain. The trait and its points are there so that a contract
-//! can say what a system of differential equations means: what holds in every domain, at every point.
+//! No code of the program computes with the values of a domain. The trait and its points are there
+//! so that a contract can say what a system of differential equations means: what holds in every
+//! domain, at every point.
 #![tactic(auto)]
 
 mod adjoin;

@@ -8,8 +8,8 @@ use std::marker::Model;
 
 /// A value for each independent and for each dependent, in a domain.
 ///
-/// The i-th derivation takes the j-th independent to one where i = j, and to zero otherwise. A contract sees the two
-/// lists of values.
+/// The i-th derivation takes the j-th independent to one where i = j, and to zero otherwise. A
+/// contract sees the two lists of values.
 #[derive(Drop)]
 pub struct Point<D: Domain> {
     domain: D,
@@ -22,16 +22,22 @@ impl<D: Domain> Model for Point<D> {
 
     ghost Value = { Coordinates D.Element };
 
-    ghost view = { λ p. record { independents = p.independents.items; dependents = p.dependents.items } };
+    ghost view = { λ p. record {
+      independents = p.independents.items;
+      dependents = p.dependents.items;
+    } };
 
-    ghost invariant = { λ p. IsPoint D.operations (record { independents = p.independents.items; dependents = p.dependents.items }) };
+    ghost invariant = { λ p. IsPoint D.operations
+        (record { independents = p.independents.items; dependents = p.dependents.items }) };
 }
 
 impl<D: Domain> Point<D> {
     /// The point with these values. It takes no memory.
     pub fn new(domain: D, independents: Vec<D::Element>, dependents: Vec<D::Element>) -> Point<D>
-        requires { IsPoint D.operations (record { independents = independents.items; dependents = dependents.items }) }
-        ensures { result ≡ record { independents = independents.items; dependents = dependents.items } }
+        requires { IsPoint D.operations
+            (record { independents = independents.items; dependents = dependents.items }) }
+        ensures { result
+            ≡ record { independents = independents.items; dependents = dependents.items } }
     {
         Point {
             domain,

@@ -5,7 +5,8 @@ use crate::domain::Domain;
 
 /// The whole numbers, of any size, without a derivation.
 ///
-/// An element is an `i128` in code. A contract sees it as a whole number, and the laws hold for every whole number.
+/// An element is an `i128` in code. A contract sees it as a whole number, and the laws hold for
+/// every whole number.
 #[derive(Clone, Copy, Debug)]
 pub struct Whole;
 
