@@ -46,6 +46,7 @@ module _ {S : Type 0} {cmp : S → S → Ordering} (order : IsOrder cmp) (v : S)
           by_rate Less g = ap (each_with_power cmp p.0 p.1) k
           by_rate Equal g = absurd (n (tied_back p.0 g))
           by_rate Greater g = ap (each_with_power cmp p.0 p.1) k
+
       by_order : (o : Ordering) → cmp v p.0 ≡ o → match_ordering o (exponent cmp v m) (p.1 + exponent cmp v m) (exponent cmp v m) ≡ 0
           → (exponent cmp v m ≡ 0 → term_derivative cmp (rate_by cmp v) m c ≡ []) → term_derivative cmp (rate_by cmp v) (p ∷ m) c ≡ []
       by_order Less g k more = other (λ x. cc) (more k)
@@ -62,15 +63,18 @@ module _ {S : Type 0} {cmp : S → S → Ordering} (order : IsOrder cmp) (v : S)
         where
           powered : each_with_power cmp p.0 p.1 (term_derivative cmp (rate_by cmp v) m c) ≡ (p ∷ without cmp v m, c) ∷ []
           powered = ap (each_with_power cmp p.0 p.1) k ∙ ap (λ n. (n, c) ∷ []) (power_first p.0 p.1 (without cmp v m) (above_without p.0 m h.1))
+
           by_rate : (o : Ordering) → cmp p.0 v ≡ o → (times_rate cmp (match_ordering o constant unit constant) (once_less p.0 p.1 m) (c *ℤ pos p.1) ++ each_with_power cmp p.0 p.1 (term_derivative cmp (rate_by cmp v) m c)) ≡ (p ∷ without cmp v m, c) ∷ []
           by_rate Less g = powered
           by_rate Equal g = absurd (n (tied_back p.0 g))
           by_rate Greater g = powered
+
       itself : cmp v p.0 ≡ Equal → p.1 ≡ 1 → exponent cmp v m ≡ 0 → term_derivative cmp (rate_by cmp v) (p ∷ m) c ≡ (without cmp v m, c) ∷ []
       itself g one none =
           let rate : cmp p.0 v ≡ Equal = tied_forth p.0 g in
           let same : c *ℤ pos 1 ≡ c = omega (arith, ints) in
           rw (rate, one, absent m c h.2 none, same, without_nothing order v m h.2 none) refl
+
       by_order : (o : Ordering) → cmp v p.0 ≡ o → match_ordering o (exponent cmp v m) (p.1 + exponent cmp v m) (exponent cmp v m) ≡ 1
           → (exponent cmp v m ≡ 1 → term_derivative cmp (rate_by cmp v) m c ≡ (without cmp v m, c) ∷ [])
           → term_derivative cmp (rate_by cmp v) (p ∷ m) c ≡ (match_ordering o (p ∷ without cmp v m) (without cmp v m) (p ∷ without cmp v m), c) ∷ []

@@ -1,7 +1,7 @@
 // One run of the program over objects in memory.
 ghost use Rattle.std.specs.Prelude.{◌<◌};
 
-use dz_domain::{Point, Whole};
+use dz_domain::{Domain, Point, Whole};
 use dz_outside::{MemSink, MemSource};
 use dz_run::blad_run;
 use std::alloc::{AllocError, Global};
@@ -56,6 +56,17 @@ pub(crate) fn ended(
 
 /// Runs the program with these words, separated by blanks.
 pub(crate) fn run(alloc: Global, words: &str, outside: Outside) -> Result<Ran, AllocError> {
+    let at = Point::empty(alloc, Whole::new());
+    run_at(alloc, words, outside, &at)
+}
+
+/// Runs the program with these words, separated by blanks, at a point.
+pub(crate) fn run_at<D: Domain>(
+    alloc: Global,
+    words: &str,
+    outside: Outside,
+    at: &Point<D>,
+) -> Result<Ran, AllocError> {
     let mut list = Vec::new(alloc);
     for word in words.split_whitespace() {
         list.push(String::from_str(alloc, word)?)?;
@@ -63,8 +74,7 @@ pub(crate) fn run(alloc: Global, words: &str, outside: Outside) -> Result<Ran, A
     let mut input = MemSource::new(outside.bytes, outside.read_most, outside.read_fails);
     let mut out = MemSink::new(alloc, outside.room, outside.write_most, outside.write_fails)?;
     let mut err = MemSink::new(alloc, 1000, 1000, Vec::new(alloc))?;
-    let at = Point::empty(alloc, Whole::new());
-    let status = blad_run(alloc, &list, &mut input, &mut out, &mut err, &at);
+    let status = blad_run(alloc, &list, &mut input, &mut out, &mut err, at);
     Ok(Ran {
         status,
         output: out.bytes().to_vec(alloc)?,

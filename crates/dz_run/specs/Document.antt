@@ -38,3 +38,7 @@ document budget tree chains =
 -- the document of a tree that is closed at its root
 abbrev pub closed_document : ℕ → List ℕ
 closed_document budget = document budget (codes "closed" ∷ []) []
+
+-- the document of a tree whose root is a chain with one equation of this text
+abbrev pub chain_document : ℕ → List ℕ → List ℕ
+chain_document budget equation = document budget (codes "chain" ∷ []) (record { equations = equation ∷ []; inequations = [] } ∷ [])

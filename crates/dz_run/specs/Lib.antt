@@ -1,6 +1,10 @@
 pub mod Token
+pub mod Reading
+pub mod Sum
 pub mod FirstForm
+pub mod Text
 pub mod Document
 pub mod Ending
+pub mod Root
 pub mod Answer
 pub mod Run

@@ -1,11 +1,15 @@
 -- What a run leaves of the input, on the output and on the error output.
-use Rattle.std.specs.Prelude.{◌≡◌, ◌⊎◌, ◌≤◌, ◌+◌, ℕ, true, false, List, length, Some, None, Result, Ok, Err, ⊤}
+use Rattle.std.specs.Prelude.{◌≡◌, ◌↔◌, ◌⊎◌, ◌≤◌, ◌+◌, ℕ, true, false, List, length, Some, None, Result, Ok, Err, ⊤}
 use Rattle.std.specs.declared.option.Option.{Option}
 use Rattle.std.specs.Io.KnownBytes.{Appends, Consumes, IsAtEnd, Keeps}
 use Rattle.dz_outside.specs.Causes.{Rose}
 use Rattle.dz_outside.specs.Reading.{GivesAtMost, GivesBytes}
 use Rattle.dz_outside.specs.Writing.{AppendsPart}
-use Rattle.dz_run.specs.Answer.{is_decompose, printed}
+use Rattle.dz_algebra.specs.Domain.{Operations}
+use Rattle.dz_domain.specs.Point.{Coordinates, value_at}
+use Rattle.dz_run.specs.Answer.{built, document_of, is_decompose, printed}
+use Rattle.dz_run.specs.FirstForm.{FirstForm}
+use Rattle.dz_run.specs.Root.{Root, SolvesRoot, first_symbols}
 use Rattle.dz_run.specs.declared.ending.Ending.{Ending}
 use Rattle.dz_run.specs.declared.ending.Ending.TheVariants.{Done, ReadFault, WriteFault, WriteStuck, NoMemory, TooLong, NotBuilt}
 
@@ -66,3 +70,14 @@ WritesAnswer before after answer (Ok done) = Appends before.written after.writte
 WritesAnswer before after answer (Err WriteFault) = AppendsPart before.written after.written answer × Rose before.faults after.faults
 WritesAnswer before after answer (Err WriteStuck) = AppendsPart before.written after.written answer × Rose before.stalls after.stalls
 WritesAnswer before after answer (Err ending) = ⊥
+
+-- What status 0 means at a point of a domain: the whole input was read and spells an equation; the document of a tree for
+-- it was printed; and the equation as it is written has value zero at the point exactly where the point solves the tree.
+pub record IsSolvedBy {E : Type 0} (o : Operations E) (point : Coordinates E) (before after : Input) (written written' : Option (List ℕ)) : Type 0 where
+  pub bytes : List ℕ
+  pub form : FirstForm
+  pub root : Root
+  pub read : IsRead before after bytes
+  pub built : built bytes ≡ Some (form, root)
+  pub printed : Appends written written' (document_of form.names root)
+  pub solutions : (value_at o point form.terms ≡ o.zero) ↔ SolvesRoot first_symbols o point root

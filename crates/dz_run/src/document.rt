@@ -1,7 +1,7 @@
 // The text of a document.
-ghost use Rattle.std.specs.Prelude.{◌≡◌, ◌++◌, IfOk, OnOk};
+ghost use Rattle.std.specs.Prelude.{◌≡◌, ◌++◌, IfOk, OnOk, codes};
 ghost use Rattle.std.specs.Fmt.{decimal};
-ghost use Rattle.dz_run.specs.Document.{closed_document, head_lines, line};
+ghost use Rattle.dz_run.specs.Document.{chain_document, closed_document, head_lines, line};
 
 use std::alloc::{AllocError, Global};
 
@@ -27,6 +27,14 @@ fn write_numbered(
     into.extend_from_slice(b"\n")
 }
 
+/// Appends the line of an equation of a chain.
+fn write_equation(into: &mut Vec<u8>, text: &[u8]) -> Result<(), AllocError>
+    ensures { OnOk result (into.new.items ≡ into.old.items ++ line (codes "equation " ++ text.now)) }
+{
+    into.extend_from_slice(b"equation ")?;
+    write_line(into, text)
+}
+
 /// The lines before the tree.
 fn head_lines(alloc: Global, budget: u32) -> Result<Vec<u8>, AllocError>
     ensures { IfOk result (λ text. text.items ≡ head_lines budget) }
@@ -45,6 +53,23 @@ pub(crate) fn closed_document(alloc: Global, budget: u32) -> Result<Vec<u8>, All
     let mut text = head_lines(alloc, budget)?;
     write_line(&mut text, b"closed")?;
     write_numbered(alloc, &mut text, b"chains ", 0)?;
+    write_line(&mut text, b"end")?;
+    Ok(text)
+}
+
+/// The document of a tree whose root is a chain with one equation of this text.
+pub(crate) fn chain_document(
+    alloc: Global,
+    budget: u32,
+    equation: &[u8],
+) -> Result<Vec<u8>, AllocError>
+    ensures { IfOk result (λ text. text.items ≡ chain_document budget equation.now) }
+{
+    let mut text = head_lines(alloc, budget)?;
+    write_line(&mut text, b"chain")?;
+    write_numbered(alloc, &mut text, b"chains ", 1)?;
+    write_numbered(alloc, &mut text, b"chain ", 1)?;
+    write_equation(&mut text, equation)?;
     write_line(&mut text, b"end")?;
     Ok(text)
 }

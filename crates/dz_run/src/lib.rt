@@ -4,8 +4,13 @@
 mod answer;
 mod document;
 mod ending;
+mod expansion;
 mod first_form;
+mod reading;
+mod root;
 mod run;
+mod sum;
+mod text;
 mod token;
 
 pub use ending::Ending;

@@ -4,7 +4,9 @@ ghost use Rattle.dz_run.specs.declared.ending.Ending.{Ending};
 ghost use Rattle.dz_run.specs.declared.ending.Ending.TheVariants.{NotBuilt, NoMemory, WriteFault, WriteStuck};
 ghost use Rattle.dz_run.specs.Answer.{is_decompose};
 ghost use Rattle.dz_run.specs.Ending.{IsSilent, message_of, status_of};
-ghost use Rattle.dz_run.specs.Run.{Ends, IsAnswered, IsTold, Input, Output, WritesAnswer};
+ghost use Rattle.dz_domain.specs.Point.{FitsSignature};
+ghost use Rattle.dz_run.specs.Sum.{first_signature};
+ghost use Rattle.dz_run.specs.Run.{Ends, IsAnswered, IsSolvedBy, IsTold, Input, Output, WritesAnswer};
 
 use crate::answer::{is_decompose, printed};
 use crate::ending::Ending;
@@ -103,11 +105,17 @@ pub fn blad_run<D: Domain, S: Source, K: Sink, L: Sink>(
         (record { written = K.written out.new; faults = K.faults out.new; stalls = K.stalls out.new }) ending
         × IsTold (record { written = L.written err.old; faults = L.faults err.old; stalls = L.stalls err.old })
         (record { written = L.written err.new; faults = L.faults err.new; stalls = L.stalls err.new }) (message_of ending) }
+    // At status 0 the equation that was read has, at a point that fits, value zero exactly where the point solves the tree
+    // whose document was printed. This holds for every point of every differential domain that is handed in.
+    ensures solutions { result ≡ 0 → FitsSignature first_signature at.now → IsSolvedBy D.operations at.now
+        (record { rest = S.rest input.old; faults = S.faults input.old })
+        (record { rest = S.rest input.new; faults = S.faults input.new }) (K.written out.old) (K.written out.new) }
     // Where nothing is to be written on the output, no write is called on it.
     ensures silent { (result ≡ 7) ⊎ (result ≡ 9) ⊎ (result ≡ 11) ⊎ (result ≡ 12) → out.new ≡ out.old }
     // Words that are not built are answered before anything is read.
     ensures unread { is_decompose (map string_bytes words.now) ≡ false → input.new ≡ input.old }
 {
+    at.is_point();
     let ending = run(alloc, words, input, out);
     tell(err, ending)
 }

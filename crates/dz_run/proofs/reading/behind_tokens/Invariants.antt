@@ -1,6 +1,6 @@
 use Rattle.std.proofs.Common.{◌≡◌, length, map}
-use Rattle.dz_run.specs.FirstForm.{behind_tokens}
-use Rattle.dz_run.proofs.first_form.behind_tokens.Given as goal
+use Rattle.dz_run.specs.Reading.{behind_tokens}
+use Rattle.dz_run.proofs.reading.behind_tokens.Given as goal
 
 abbrev pub invariant-tokens : goal.invariant-tokens
 invariant-tokens l = behind_tokens (map (λ t. t.now) l.wanted) l.rest ≡ behind_tokens (map (λ t. t.now) l.tokens) l.text

@@ -1,11 +1,11 @@
-use Rattle.std.proofs.Common.{◌≡◌, ◌≤◌, ◌^◌, ◌-◌, length}
-use Rattle.dz_run.specs.FirstForm.{number_from}
-use Rattle.dz_run.proofs.first_form.number_of.Given as goal
+use Rattle.std.proofs.Common.{◌≡◌, ◌≤◌, length}
+use Rattle.dz_run.specs.Reading.{number_from}
+use Rattle.dz_run.proofs.reading.number_of.Given as goal
 
 abbrev pub invariant-digits : goal.invariant-digits
 invariant-digits l = record {
   same : number_from l.value l.rest ≡ number_from 0 l.digits;
-  within : l.value ≤ 2 ^ 127 - 1;
+  within : l.value ≤ l.most;
 }
 
 abbrev pub decreases-digits : goal.decreases-digits
