@@ -1,0 +1,7 @@
+pub mod Euclidean
+pub mod Coprime
+pub mod Contents
+pub mod Signs
+pub mod Cross
+pub mod Reduced
+pub mod Sums

@@ -1,0 +1,7 @@
+pub mod Loops
+pub mod Digits
+pub mod Sound
+pub mod Shorter
+pub mod Complete
+pub mod Readings
+pub mod AnyMap

@@ -1,0 +1,9 @@
+pub mod Tokens
+pub mod Faults
+pub mod Expressions
+pub mod Names
+pub mod Numbers
+pub mod Atoms
+pub mod Grammar
+pub mod Items
+pub mod Declarations

@@ -1,0 +1,17 @@
+//! The reading of system text: the one tree that the grammar derives, or the first fault with its
+//! place and kind.
+#![tactic(auto)]
+
+mod atom;
+mod declaration;
+mod expression;
+mod fault;
+mod item;
+mod names;
+mod number;
+mod token;
+
+pub use expression::Op;
+pub use fault::{SyntaxFault, SyntaxKind};
+pub use item::{one_reading, read_item};
+pub use names::Names;
