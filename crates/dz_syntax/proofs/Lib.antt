@@ -5,3 +5,7 @@ pub mod Shorter
 pub mod Complete
 pub mod Readings
 pub mod AnyMap
+pub mod NumberLists
+pub mod Given
+pub mod BlockLists
+pub mod SeparatedLists

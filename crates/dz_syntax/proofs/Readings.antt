@@ -1,7 +1,6 @@
 -- The reading of an item, and the grammar.
 use Rattle.std.proofs.Common.{◌≡◌, ℕ, ◌<◌, List, length, Result, Ok, Err, refl, sym, ap, subst, ◌∙◌, arith, false}
 use Rattle.std.specs.Prelude.{IfOk}
-use Rattle.std.specs.Global.{Vec}
 use Rattle.dz_syntax.specs.declared.token.Token.{Token}
 use Rattle.dz_syntax.specs.declared.token.Token.TheVariants.{Nothing}
 use Rattle.dz_syntax.specs.declared.fault.Fault.{Fault}
@@ -40,8 +39,8 @@ item_again names bytes o is =
     let read = poly_complete names (IsInside names 64) (inside names 64) (inside_complete names 64) (inside_within names 64) (start bytes) o is.end is.poly lt in
     ap (placed (length bytes)) (on_ok (poly_with names (inside names 64) (start bytes)) s (λ s. ended_from (front s.text) s) read ∙ ap (λ t. ended_from t s) is.nothing)
 
-pub is_found : (names : Declared) (bytes : List ℕ) (r : Result (Vec Op) SyntaxFault) → Answers (λ v. v.items) r (item_of names bytes) → IfOk r (λ v. IsItem names bytes v.items)
-is_found names bytes (Ok v) e = item_found names bytes v.items e
+pub is_found : (names : Declared) (bytes : List ℕ) (r : Result (List Op) SyntaxFault) → Answers (λ v. v) r (item_of names bytes) → IfOk r (λ v. IsItem names bytes v)
+is_found names bytes (Ok v) e = item_found names bytes v e
 is_found names bytes (Err f) e = tt
 
 abbrev read : List Op → Result (List Op) SyntaxFault

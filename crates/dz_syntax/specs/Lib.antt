@@ -4,6 +4,9 @@ pub mod Expressions
 pub mod Names
 pub mod Numbers
 pub mod Atoms
+pub mod Marks
+pub mod Blocks
+pub mod Sections
 pub mod Grammar
 pub mod Items
 pub mod Declarations

@@ -3,6 +3,7 @@ use Rattle.std.specs.Prelude.{ℕ, ◌+◌, ◌-◌, ◌≤◌, ◌<◌, List, [
 use Rattle.std.specs.Str.{bytes_eq}
 use Rattle.std.specs.List.{list_any}
 use Rattle.dz_rank.specs.Symbols.{identity}
+use Rattle.dz_rank.specs.declared.rankings.Signature.{Signature}
 use Rattle.dz_syntax.specs.declared.names.Group.TheVariants.{Independents, Dependents}
 use Rattle.dz_syntax.specs.declared.names.Group.{Group}
 use Rattle.dz_rank.specs.declared.symbols.Symbol.{Symbol}
@@ -48,3 +49,17 @@ HasRoom Dependents left names = length names.all + left ≤ names.independents +
 abbrev pub FitsSymbol : Symbol → Type 0
 FitsSymbol (Independent i) = i < 4
 FitsSymbol (Derivative d o) = d < 16
+
+abbrev pub no_names : Declared
+no_names = record { all = []; independents = 0 }
+
+-- how many dependents are declared
+abbrev pub dependents : Declared → ℕ
+dependents names = length names.all - names.independents
+
+abbrev pub signature_of : Declared → Signature
+signature_of names = record { independents = names.independents; dependents = dependents names }
+
+-- how many more dependents may be declared
+abbrev pub room : Declared → ℕ
+room names = 16 - dependents names

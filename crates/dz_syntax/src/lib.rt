@@ -3,15 +3,18 @@
 #![tactic(auto)]
 
 mod atom;
+mod blocks;
 mod declaration;
 mod expression;
 mod fault;
 mod item;
+mod marks;
 mod names;
 mod number;
+mod sections;
 mod token;
 
 pub use expression::Op;
 pub use fault::{SyntaxFault, SyntaxKind};
-pub use item::{one_reading, read_item};
+pub use item::{Item, one_reading, read_item};
 pub use names::Names;

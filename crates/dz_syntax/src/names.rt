@@ -1,9 +1,10 @@
-//! Symbols, and the names that stand for them.
+//! The declared names, and the symbols that they stand for.
 
-ghost use Rattle.std.specs.Prelude.{◌≡◌, ◌≢◌, ◌<◌, ◌≤◌, ◌+◌, [], ◌∷◌, ◌++◌, length, IfOk, IfSome, OnErr, OnOk, Some, None, true, false, is_some, position, map};
+ghost use Rattle.std.specs.Prelude.{◌≡◌, ◌≢◌, ◌<◌, ◌≤◌, ◌+◌, [], ◌∷◌, ◌++◌, length, IfOk, IfSome, OnErr, OnOk, Some, None, true, false, is_some, position, map, slice_get};
 ghost use Rattle.std.specs.Str.{bytes_eq};
 ghost use Rattle.std.specs.List.{list_any};
-ghost use Rattle.dz_syntax.specs.Names.{Declared, FitsSymbol, HasRoom, declared, find, known};
+ghost use Rattle.dz_syntax.specs.Names.{Declared, FitsSymbol, HasRoom, declared, dependents, find, known, no_names, room, signature_of};
+ghost use Rattle.dz_syntax.specs.declared.names.Group.TheVariants.{Dependents};
 
 use dz_rank::{Operator, Signature, Symbol};
 use indexmap::IndexSet;
@@ -66,14 +67,69 @@ fn put_name(alloc: Global, set: &mut IndexSet<Vec<u8>>, name: &[u8]) -> Result<(
     Ok(())
 }
 
+// The name at a place in the set.
+fn name_at(set: &IndexSet<Vec<u8>>, index: usize) -> &[u8]
+    requires { index < length (map (λ n. n.items) set.now.keys) }
+    ensures { Some result.now ≡ slice_get (map (λ n. n.items) set.now.keys) index }
+{
+    match set.get_index(index) {
+        Some(name) => name,
+        None => unreachable!(),
+    }
+}
+
+// How many names are in the set.
+fn count(set: &IndexSet<Vec<u8>>) -> usize
+    ensures { result ≡ length (map (λ n. n.items) set.now.keys) }
+{
+    set.len()
+}
+
 impl Names {
-    pub fn new(alloc: Global) -> Names
-        ensures { result ≡ record { all = []; independents = 0 } }
+    /// No names.
+    pub(crate) fn new(alloc: Global) -> Names
+        ensures { result ≡ no_names }
     {
         Names {
             set: IndexSet::new(alloc),
             independents: 0,
         }
+    }
+
+    /// How many dependents are declared.
+    pub(crate) fn dependents(&self) -> u8
+        ensures value { result ≡ dependents self.now }
+        ensures fits { result ≤ 16 }
+    {
+        (count(&self.set) - usize::from(self.independents)) as u8
+    }
+
+    /// How many independents and how many dependents are declared.
+    pub fn signature(&self) -> Signature
+        ensures value { result ≡ signature_of self.now }
+        ensures few_independents { result.independents ≤ 4 }
+        ensures few_dependents { result.dependents ≤ 16 }
+    {
+        Signature {
+            independents: self.independents,
+            dependents: self.dependents(),
+        }
+    }
+
+    /// The name of an independent.
+    pub fn independent(&self, i: u8) -> &[u8]
+        requires { i < self.now.independents }
+        ensures { Some result.now ≡ slice_get self.now.all i }
+    {
+        name_at(&self.set, usize::from(i))
+    }
+
+    /// The name of a dependent.
+    pub fn dependent(&self, i: u8) -> &[u8]
+        requires { i < dependents self.now }
+        ensures { Some result.now ≡ slice_get self.now.all (self.now.independents + i) }
+    {
+        name_at(&self.set, usize::from(self.independents) + usize::from(i))
     }
 
     #[tactic(auto, unfolding(crate::specs::Names::find))]
@@ -94,14 +150,27 @@ impl Names {
     }
 
     /// Whether a name is declared.
-    pub fn is_known(&self, name: &[u8]) -> bool
+    pub(crate) fn is_known(&self, name: &[u8]) -> bool
         ensures { result ≡ known self.now name.now }
     {
         has_name(&self.set, name)
     }
 
+    /// How many more dependents may be declared.
+    pub(crate) fn room(&self) -> u8
+        ensures value { result ≡ room self.now }
+        ensures enough { HasRoom Dependents result self.now }
+    {
+        16 - self.dependents()
+    }
+
     /// Declares a new name.
-    pub fn declare(&mut self, alloc: Global, group: Group, name: &[u8]) -> Result<(), AllocError>
+    pub(crate) fn declare(
+        &mut self,
+        alloc: Global,
+        group: Group,
+        name: &[u8],
+    ) -> Result<(), AllocError>
         requires new { known self.old name.now ≡ false }
         requires room { HasRoom group 1 self.old }
         ensures ok { OnOk result (self.new ≡ declared group self.old name.now) }

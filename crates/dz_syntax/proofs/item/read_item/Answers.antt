@@ -7,4 +7,4 @@ pub returns-clause-found : goal.returns-clause-found
 returns-clause-found c = is_found c.args.names.now c.args.bytes.now c.placed_item.result c.placed_item.ensures
 
 pub returns-clause-only : goal.returns-clause-only
-returns-clause-only c = λ o is. subst (λ r. Answers (λ v. v.items) c.placed_item.result r) (item_again c.args.names.now c.args.bytes.now o is) c.placed_item.ensures
+returns-clause-only c = λ o is. subst (λ r. Answers (λ v. v) c.placed_item.result r) (item_again c.args.names.now c.args.bytes.now o is) c.placed_item.ensures
