@@ -6,6 +6,7 @@ pub mod Complete
 pub mod Readings
 pub mod AnyMap
 pub mod NumberLists
+pub mod Fractions
 pub mod Given
 pub mod BlockLists
 pub mod SeparatedLists

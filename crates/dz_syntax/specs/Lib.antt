@@ -7,6 +7,9 @@ pub mod Atoms
 pub mod Marks
 pub mod Blocks
 pub mod Sections
+pub mod Values
+pub mod Endings
+pub mod Systems
 pub mod Grammar
 pub mod Items
 pub mod Declarations

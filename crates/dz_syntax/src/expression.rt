@@ -11,8 +11,10 @@ use crate::names::Names;
 use crate::token::{Token, next};
 use dz_rank::Symbol;
 
-const MOST_LITERAL: u128 = (1 << 127) - 1;
+/// The greatest coefficient, numerator and denominator.
+pub(crate) const MOST_LITERAL: u128 = (1 << 127) - 1;
 
+/// The greatest exponent.
 const MOST_EXPONENT: u128 = 65_535;
 
 /// One step of an expression in postfix order.

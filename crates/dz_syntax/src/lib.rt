@@ -5,6 +5,7 @@
 mod atom;
 mod blocks;
 mod declaration;
+mod endings;
 mod expression;
 mod fault;
 mod item;
@@ -12,9 +13,13 @@ mod marks;
 mod names;
 mod number;
 mod sections;
+mod system;
 mod token;
+mod values;
 
+pub use endings::Form;
 pub use expression::Op;
 pub use fault::{SyntaxFault, SyntaxKind};
 pub use item::{Item, one_reading, read_item};
 pub use names::Names;
+pub use system::{SystemTree, read_system};

@@ -1,0 +1,98 @@
+//! Whole systems.
+
+ghost use Rattle.std.specs.Prelude.{◌≡◌, []};
+ghost use Rattle.dz_rank.specs.Rankings.{block_values};
+ghost use Rattle.dz_syntax.specs.Faults.{Gives};
+ghost use Rattle.dz_syntax.specs.Names.{no_names};
+ghost use Rattle.dz_syntax.specs.Items.{Answers};
+ghost use Rattle.dz_syntax.specs.Systems.{header_at, system_at, system_of, tree_of};
+
+use crate::blocks::{blocks, independents};
+use crate::endings::{Form, rest};
+use crate::fault::{Stop, SyntaxFault, SyntaxKind};
+use crate::item::Item;
+use crate::marks::{Section, expected, ranking};
+use crate::names::Names;
+use crate::sections::section;
+use crate::token::skip;
+use dz_int::Frac;
+use dz_rank::{Block, Signature, Symbol};
+use std::alloc::Global;
+
+/// A system of differential polynomials as it is written, and what follows it in its form.
+#[derive(Drop)]
+pub struct SystemTree {
+    pub names: Names,
+    /// How many independents and how many dependents are declared.
+    pub signature: Signature,
+    /// The blocks of the ranking, the greatest first.
+    pub blocks: Vec<Block>,
+    pub equations: Vec<Item>,
+    pub inequations: Vec<Item>,
+    /// The questions of the form with questions; else none.
+    pub questions: Vec<Item>,
+    /// The values of the form with values; else none.
+    pub values: Vec<(Symbol, Frac)>,
+    /// The place at which the document of the form with a document begins; else 0.
+    pub document: usize,
+}
+
+// Reads the independents and the blocks.
+#[tactic(auto, unfolding(crate::specs::Systems::header_at))]
+fn header<'a>(
+    alloc: Global,
+    names: &mut Names,
+    into: &mut Vec<Block>,
+    text: &'a [u8],
+) -> Result<&'a [u8], Stop>
+    requires names { names.old ≡ no_names }
+    requires blocks { into.old.items ≡ [] }
+    ensures read { Gives (λ t. (names.new, block_values into.new.items, t.now)) result
+        (header_at names.old text.now) }
+{
+    let text = independents(alloc, names, text)?;
+    let text = expected(ranking(text), text)?;
+    blocks(alloc, names, into, text)
+}
+
+// Reads a system and what follows it.
+#[tactic(auto, unfolding(crate::specs::Systems::system_at))]
+fn system(alloc: Global, bytes: &[u8], form: Form) -> Result<SystemTree, Stop>
+    ensures { Gives (λ t. tree_of t) result (system_at form bytes.now) }
+{
+    let mut names = Names::new(alloc);
+    let mut blocks = Vec::new(alloc);
+    let text = header(alloc, &mut names, &mut blocks, skip(bytes))?;
+    let (equations, text) = section(alloc, Section::Equations, &names, text)?;
+    let (inequations, text) = section(alloc, Section::Inequations, &names, text)?;
+    let ending = rest(alloc, form, bytes.len(), &names, text)?;
+    Ok(SystemTree {
+        signature: names.signature(),
+        names,
+        blocks,
+        equations,
+        inequations,
+        questions: ending.questions,
+        values: ending.values,
+        document: ending.document,
+    })
+}
+
+/// Reads a system text in a form: the one tree, or the first fault.
+#[tactic(auto, unfolding(crate::specs::Systems::system_of))]
+pub fn read_system(alloc: Global, bytes: &[u8], form: Form) -> Result<SystemTree, SyntaxFault>
+    // Which tree it is, or which fault.
+    ensures exact { Answers (λ t. tree_of t) result (system_of form bytes.now) }
+{
+    match system(alloc, bytes, form) {
+        Ok(tree) => Ok(tree),
+        Err(Stop::Memory) => Err(SyntaxFault {
+            place: 0,
+            kind: SyntaxKind::Memory,
+        }),
+        Err(Stop::Fault(fault)) => Err(SyntaxFault {
+            place: bytes.len().saturating_sub(fault.left),
+            kind: fault.kind,
+        }),
+    }
+}
