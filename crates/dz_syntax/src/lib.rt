@@ -14,6 +14,8 @@ mod names;
 mod number;
 mod sections;
 mod system;
+#[cfg(test)]
+mod tests;
 mod token;
 mod values;
 
