@@ -1,5 +1,5 @@
 -- The greatest common divisor of a list, taken one value after the other.
-use Rattle.std.proofs.Common.{◌≡◌, ◌<◌, ◌≤◌, ◌+◌, ℕ, List, [], ◌∷◌, ◌++◌, ℤ, pos, length, take, slice_index_or, unsigned_abs, All, refl, ◌∙◌, sym, ap, subst, arith}
+use Rattle.std.proofs.Common.{◌≡◌, ◌<◌, ◌≤◌, ◌+◌, ℕ, List, ℤ, pos, length, take, slice_index_or, unsigned_abs, All, ◌∙◌, sym, ap, subst, arith}
 use Rattle.std.specs.Int.{IsGcd, ◌∣◌}
 use Rattle.std.proofs.lemmas.List.{take_more, take_all, get_or-take, length-take}
 use Rattle.std.proofs.lemmas.List.Elements.{All-push, All-take}

@@ -1,5 +1,5 @@
 -- The product of two reduced fractions, reduced crosswise.
-use Rattle.std.proofs.Common.{◌≡◌, ◌<◌, ◌≤◌, ◌*◌, ◌/◌, ◌%◌, ◌⊎◌, inl, inr, ◌∙◌, ℕ, zero, suc, refl, sym, ap, ap₂, subst, arith}
+use Rattle.std.proofs.Common.{◌≡◌, ◌<◌, ◌≤◌, ◌*◌, ◌/◌, ◌%◌, inl, inr, ◌∙◌, ℕ, zero, suc, sym, ap, ap₂, subst, arith}
 use Rattle.std.specs.Int.{◌∣◌}
 use Rattle.std.proofs.lemmas.Nat.Gcd.{mod-eq-zero_of_dvd}
 use Rattle.dz_int.specs.Numbers.{greatest}
@@ -45,7 +45,7 @@ cross_reduced a b c d k l p q h g e f =
       second_positive = divisor_positive l b p zb;
       positive = product_positive (b / l) (d / k) (quotient_positive l b p zb) (quotient_positive k d q wd);
       coprime = coprime_products k l (a / k) (c / l) (b / l) (d / k) (divisor_positive k d q wd) (divisor_positive l b p zb)
-        (ap₂ gcd xa zb ∙ h) (ap₂ gcd yc wd ∙ g) (ap₂ gcd xa wd ∙ sym e) (ap₂ gcd yc zb ∙ sym f);
+          (ap₂ gcd xa zb ∙ h) (ap₂ gcd yc wd ∙ g) (ap₂ gcd xa wd ∙ sym e) (ap₂ gcd yc zb ∙ sym f);
       cross = ap₂ (λ m n. ((a / k) * (c / l)) * (m * n)) (sym zb) (sym wd) ∙ regroup k l (a / k) (c / l) (b / l) (d / k) ∙ ap₂ (λ m n. (m * n) * ((b / l) * (d / k))) xa yc;
     }
   where
@@ -58,12 +58,12 @@ cross_reduced a b c d k l p q h g e f =
 -- ---- what the code answers
 pub are_parts : (a b c d k l x y : ℕ) → IsCrossReduced a b c d k l → x ≡ (a / k) * (c / l) → (a / k) * (c / l) ≤ greatest → y ≡ (b / l) * (d / k) → (b / l) * (d / k) ≤ greatest → AreParts (a * c) (b * d) x y
 are_parts a b c d k l x y r e h f g = subst (λ m. AreParts (a * c) (b * d) m y) (sym e) (subst (AreParts (a * c) (b * d) ((a / k) * (c / l))) (sym f) (record {
-    positive = r.positive;
-    coprime = r.coprime;
-    cross = r.cross;
-    numerator_in_range = h;
-    denominator_in_range = g;
-  }))
+  positive = r.positive;
+  coprime = r.coprime;
+  cross = r.cross;
+  numerator_in_range = h;
+  denominator_in_range = g;
+}))
 
 -- every other reduced form is the same
 same_reduced : (a b c d k l x y : ℕ) → 0 < b * d → IsCrossReduced a b c d k l → 0 < y → gcd x y ≡ 1 → x * (b * d) ≡ (a * c) * y → ((a / k) * (c / l) ≡ x) × ((b / l) * (d / k) ≡ y)

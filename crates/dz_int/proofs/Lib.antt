@@ -5,3 +5,4 @@ pub mod Signs
 pub mod Cross
 pub mod Reduced
 pub mod Sums
+pub mod Unique

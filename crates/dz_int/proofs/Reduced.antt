@@ -1,12 +1,12 @@
 -- Fractions by sign, numerator and denominator, and their reduced form.
-use Rattle.std.proofs.Common.{◌≡◌, ◌<◌, ◌≤◌, ◌+◌, ◌*◌, ◌/◌, ◌∙◌, ℕ, zero, suc, Bool, true, false, not, ℤ, pos, negsuc, ◌+ℤ◌, ◌*ℤ◌, unsigned_abs, refl, sym, ap, ap₂, subst, arith}
+use Rattle.std.proofs.Common.{◌≡◌, ◌<◌, ◌≤◌, ◌*◌, ◌/◌, ◌∙◌, ℕ, Bool, not, ℤ, pos, ◌*ℤ◌, unsigned_abs, refl, sym, ap, ap₂, subst, arith}
 use Rattle.std.specs.Int.{IsGcd, ◌∣◌, is_negative}
 use Rattle.std.specs.Prelude.{neg_ℤ}
 use Rattle.std.proofs.lemmas.Int.{unsigned_abs-mul}
 use mathlib.Core.Bool.{beq}
 use Rattle.std.proofs.lemmas.Nat.Gcd.{same_from_IsGcd}
 use Rattle.dz_int.specs.Numbers.{greatest, signed}
-use Rattle.dz_int.specs.Fractions.{Fraction, IsReduced, IsFraction, HasValue, LeavesRange}
+use Rattle.dz_int.specs.Fractions.{Fraction, IsFraction, HasValue, LeavesRange}
 use Rattle.dz_int.specs.Euclid.{gcd, AreParts, HasNoParts}
 use Rattle.dz_int.proofs.Coprime.{gcd_is, gcd_swap, coprime_quotients}
 use Rattle.dz_int.proofs.Cross.{quotient, divisor_positive, quotient_positive}

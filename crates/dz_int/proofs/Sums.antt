@@ -1,10 +1,10 @@
 -- The sum of two fractions over their least common denominator.
-use Rattle.std.proofs.Common.{◌≡◌, ◌<◌, ◌≤◌, ◌+◌, ◌*◌, ◌/◌, ◌⊎◌, inl, inr, ◌∙◌, ℕ, Bool, ℤ, pos, ◌+ℤ◌, ◌*ℤ◌, unsigned_abs, refl, sym, ap, ap₂, subst, arith}
+use Rattle.std.proofs.Common.{◌≡◌, ◌<◌, ◌≤◌, ◌+◌, ◌*◌, ◌/◌, inl, inr, ◌∙◌, ℕ, Bool, ℤ, pos, ◌+ℤ◌, ◌*ℤ◌, unsigned_abs, refl, sym, ap, ap₂, subst, arith}
 use Rattle.std.specs.Int.{IsGcd, ◌∣◌, is_negative}
 use Rattle.std.proofs.Math.IntN.{pos-*ℤ-pos}
 use Rattle.std.proofs.lemmas.Nat.Gcd.{same_from_IsGcd}
 use Rattle.dz_int.specs.Numbers.{greatest, signed}
-use Rattle.dz_int.specs.Fractions.{Fraction, HasValue, SumFits, SumPasses, sum_majorant, common_denominator}
+use Rattle.dz_int.specs.Fractions.{Fraction, HasValue, SumPasses}
 use Rattle.dz_int.specs.Euclid.{gcd, AreSumParts}
 use Rattle.dz_int.proofs.Coprime.{gcd_is}
 use Rattle.dz_int.proofs.Cross.{quotient, quotient_positive}

@@ -7,8 +7,8 @@ ghost use Rattle.dz_int.specs.Euclid.{gcd};
 /// The greatest absolute value in range, `2^127 - 1`.
 pub(crate) const GREATEST: u128 = 170141183460469231731687303715884105727;
 
-#[tactic(auto, using(crate::proofs::Euclidean::gcd_zero, crate::proofs::Euclidean::gcd_step))]
 /// The greatest common divisor of two numbers of 64 bits.
+#[tactic(auto, using(crate::proofs::Euclidean::gcd_zero, crate::proofs::Euclidean::gcd_step))]
 fn short_divisor(a: u64, b: u64) -> u64
     ensures { result ≡ gcd a b }
 {
@@ -22,8 +22,8 @@ fn short_divisor(a: u64, b: u64) -> u64
     x
 }
 
-#[tactic(auto, using(crate::proofs::Euclidean::gcd_zero, crate::proofs::Euclidean::gcd_step))]
 /// The greatest common divisor, in 64 bits as soon as both numbers fit.
+#[tactic(auto, using(crate::proofs::Euclidean::gcd_zero, crate::proofs::Euclidean::gcd_step))]
 pub(crate) fn divisor(a: u128, b: u128) -> u128
     ensures { result ≡ gcd a b }
 {
@@ -40,11 +40,8 @@ pub(crate) fn divisor(a: u128, b: u128) -> u128
     x
 }
 
-#[tactic(auto, using(
-    crate::proofs::Contents::content_of_none,
-    crate::proofs::Contents::content_of_all,
-))]
 /// The greatest common divisor of the absolute values; 0 for none or only zeros.
+#[tactic(auto, using(crate::proofs::Contents::content_of_none, crate::proofs::Contents::content_of_all))]
 pub fn content(values: &[i128]) -> u128
     ensures { IsContent values.now result }
 {

@@ -27,7 +27,8 @@ impl Model for Frac {
 
     ghost inverse = { λ f. record { numerator = f.numerator; denominator = f.denominator } };
 
-    ghost invariant = { λ f. IsFraction (record { numerator = f.numerator; denominator = f.denominator }) };
+    ghost invariant = { λ f.
+        IsFraction (record { numerator = f.numerator; denominator = f.denominator }) };
 }
 
 /// The number with an absolute value and a sign.
@@ -44,7 +45,9 @@ fn with_sign(absolute: u128, negative: bool) -> i128
 
 /// The product of two numbers, where it is in range.
 fn product_in_range(a: u128, b: u128) -> Option<u128>
-    ensures { MatchOption result (greatest < a * b) (λ product. (product ≡ a * b) × (a * b ≤ greatest)) }
+    ensures { MatchOption result
+        (greatest < a * b)
+        (λ product. (product ≡ a * b) × (a * b ≤ greatest)) }
 {
     match a.checked_mul(b) {
         Some(product) if product <= GREATEST => Some(product),
@@ -59,7 +62,7 @@ fn sum_in_range(a: i128, x: u128, b: i128, y: u128) -> Option<i128>
     ensures { MatchOption result
         (greatest < unsigned_abs a * x + unsigned_abs b * y)
         (λ sum. (sum ≡ a *ℤ pos x +ℤ b *ℤ pos y)
-            × (unsigned_abs a * x + unsigned_abs b * y ≤ greatest)) }
+        × (unsigned_abs a * x + unsigned_abs b * y ≤ greatest)) }
 {
     let (x, y) = (x as i128, y as i128);
     let mut majorant = Majorant::new();
@@ -81,13 +84,9 @@ fn cross_divisors(a: u128, b: u128, c: u128, d: u128) -> (u128, u128)
     (divisor(a, d), divisor(c, b))
 }
 
-#[tactic(auto, using(
-    crate::proofs::Cross::are_parts,
-    crate::proofs::Cross::no_numerator,
-    crate::proofs::Cross::no_denominator,
-))]
 /// The numerator and the denominator of the reduced product of two reduced fractions `a/b` and
 /// `c/d`, where both are in range.
+#[tactic(auto, using(crate::proofs::Cross::are_parts, crate::proofs::Cross::no_numerator, crate::proofs::Cross::no_denominator))]
 fn product_parts(a: u128, b: u128, c: u128, d: u128) -> Option<(u128, u128)>
     requires b_positive { 0 < b }
     requires d_positive { 0 < d }
@@ -103,23 +102,19 @@ fn product_parts(a: u128, b: u128, c: u128, d: u128) -> Option<(u128, u128)>
     Some((numerator, denominator))
 }
 
-#[tactic(auto, using(
-    crate::proofs::Sums::divisor_is_positive,
-    crate::proofs::Sums::are_sum_parts,
-    crate::proofs::Sums::majorant_passes,
-    crate::proofs::Sums::denominator_passes,
-))]
 /// The numerator and the denominator of the sum of `a/b` and `c/d` over their least common
 /// denominator, where both are in range, the numerator also with absolute values.
+#[tactic(auto, using(crate::proofs::Sums::divisor_is_positive, crate::proofs::Sums::are_sum_parts, crate::proofs::Sums::majorant_passes, crate::proofs::Sums::denominator_passes))]
 fn sum_parts(a: i128, b: u128, c: i128, d: u128) -> Option<(i128, u128)>
     requires b_positive { 0 < b }
     requires d_positive { 0 < d }
     requires b_in_range { b ≤ greatest }
     requires d_in_range { d ≤ greatest }
     ensures { MatchOption result
-        (SumPasses (record { numerator = a; denominator = b }) (record { numerator = c; denominator = d }))
+        (SumPasses (record { numerator = a; denominator = b })
+        (record { numerator = c; denominator = d }))
         (λ parts. AreSumParts (record { numerator = a; denominator = b })
-            (record { numerator = c; denominator = d }) parts.0 parts.1) }
+        (record { numerator = c; denominator = d }) parts.0 parts.1) }
 {
     let common = divisor(b, d);
     let (first, second) = (d / common, b / common);
@@ -141,7 +136,9 @@ impl Frac {
         requires denominator_in_range { denominator ≤ greatest }
         requires coprime { gcd absolute denominator ≡ 1 }
         ensures value { result ≡ record {
-            numerator = signed negative absolute; denominator = denominator } }
+          numerator = signed negative absolute;
+          denominator = denominator;
+        } }
         ensures fraction { IsFraction result }
     {
         Frac {
@@ -150,13 +147,8 @@ impl Frac {
         }
     }
 
-    #[tactic(auto, using(
-        crate::proofs::Reduced::common_positive,
-        crate::proofs::Reduced::quotients_coprime,
-        crate::proofs::Reduced::quotient_of_denominator,
-        crate::proofs::Reduced::reduced_value,
-    ))]
     /// The fraction with a numerator in range, of this absolute value and sign, and a denominator.
+    #[tactic(auto, using(crate::proofs::Reduced::common_positive, crate::proofs::Reduced::quotients_coprime, crate::proofs::Reduced::quotient_of_denominator, crate::proofs::Reduced::reduced_value))]
     fn reduced(absolute: u128, denominator: u128, negative: bool) -> Frac
         requires numerator_in_range { absolute ≤ greatest }
         requires positive { 0 < denominator }
@@ -201,7 +193,9 @@ impl Frac {
     /// The fraction with the other sign.
     pub fn negative(self) -> Frac
         ensures { result ≡ record {
-            numerator = neg_ℤ self.numerator; denominator = self.denominator } }
+          numerator = neg_ℤ self.numerator;
+          denominator = self.denominator;
+        } }
     {
         Frac {
             numerator: -self.numerator,

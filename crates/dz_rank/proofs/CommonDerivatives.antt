@@ -1,9 +1,9 @@
 -- The greater exponents give the least common derivative.
-use Rattle.std.proofs.Common.{◌≡◌, ◌≤◌, ◌+◌, ◌-◌, ◌∙◌, ◌==◌, ℕ, List, [], ◌∷◌, max, true, IsTrue, refl, sym, ap, ap₂, arith, subst, eqb-true}
+use Rattle.std.proofs.Common.{◌≡◌, ◌+◌, ◌-◌, ◌∙◌, ℕ, List, [], ◌∷◌, max, true, refl, sym, ap, ap₂, arith, subst, eqb-true}
 use Rattle.dz_rank.specs.declared.symbols.Operator.{Operator}
 use Rattle.dz_rank.specs.declared.symbols.Symbol.{Symbol}
 use Rattle.dz_rank.specs.declared.symbols.Symbol.TheVariants.{Independent, Derivative}
-use Rattle.dz_rank.specs.Symbols.{exponent_sums, exponent_maxima, is_derivative, have_one_dependent, derivative_by, IsDerivativeBy, IsDerivativeOf, least_common_derivative, IsLeastCommon}
+use Rattle.dz_rank.specs.Symbols.{exponent_sums, exponent_maxima, have_one_dependent, IsDerivativeOf, least_common_derivative, IsLeastCommon}
 
 -- by how much the second exponents pass the first
 abbrev excess : List ℕ → List ℕ → List ℕ
@@ -66,10 +66,10 @@ exponents_of (Derivative u s) = s.counts
 
 of_one_dependent : (u : ℕ) (s t : Operator) → IsLeastCommon (Derivative u s) (Derivative u t) (Derivative u (record { counts = exponent_maxima s.counts t.counts }))
 of_one_dependent u s t = record {
-    first = (record { counts = excess s.counts t.counts }, (refl, ap (λ ks. Derivative u (record { counts = ks })) (sums_of_excess s.counts t.counts)));
-    second = (record { counts = excess t.counts s.counts }, (refl, ap (λ ks. Derivative u (record { counts = ks })) (maxima_swap s.counts t.counts ∙ sums_of_excess t.counts s.counts)));
-    least = λ w d e. least w d e;
-  }
+  first = (record { counts = excess s.counts t.counts }, (refl, ap (λ ks. Derivative u (record { counts = ks })) (sums_of_excess s.counts t.counts)));
+  second = (record { counts = excess t.counts s.counts }, (refl, ap (λ ks. Derivative u (record { counts = ks })) (maxima_swap s.counts t.counts ∙ sums_of_excess t.counts s.counts)));
+  least = λ w d e. least w d e;
+}
   where
     least : (w : Symbol) → IsDerivativeOf (Derivative u s) w → IsDerivativeOf (Derivative u t) w → IsDerivativeOf (Derivative u (record { counts = exponent_maxima s.counts t.counts })) w
     least w d e =

@@ -8,7 +8,7 @@ use Rattle.dz_rank.specs.declared.rankings.Kind.{Kind}
 use Rattle.dz_rank.specs.declared.rankings.Kind.TheVariants.{GrlexA, GrlexB, DegrevA, DegrevB, LexA}
 use Rattle.dz_rank.specs.declared.symbols.Operator.{Operator}
 use Rattle.dz_rank.specs.declared.symbols.Symbol.TheVariants.{Independent, Derivative}
-use Rattle.dz_rank.specs.Rankings.{RankingValue, BlockValue, ranking_cmp, block_number, block_at, by_block, by_kind, place_of}
+use Rattle.dz_rank.specs.Rankings.{RankingValue, ranking_cmp, block_number, block_at, by_block, by_kind, place_of}
 use Rattle.dz_rank.specs.Standings.{by_keys, standing_of}
 
 keys_are : (k : Kind) (us : List ℕ) (u v : ℕ) (s t : List ℕ) → by_keys k s t (nat_cmp (place_of v us) (place_of u us)) ≡ by_kind k us (u, s) (v, t)

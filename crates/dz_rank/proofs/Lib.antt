@@ -6,3 +6,4 @@ pub mod CommonDerivatives
 pub mod BlockLists
 pub mod Tables
 pub mod Orderly
+pub mod Belonging

@@ -14,7 +14,7 @@ use Rattle.dz_rank.specs.declared.rankings.Kind.TheVariants.{GrlexA, GrlexB, Deg
 use Rattle.dz_rank.specs.declared.symbols.Operator.{Operator}
 use Rattle.dz_rank.specs.declared.symbols.Symbol.{Symbol}
 use Rattle.dz_rank.specs.declared.symbols.Symbol.TheVariants.{Independent, Derivative}
-use Rattle.dz_rank.specs.Rankings.{RankingValue, BlockValue, ranking_cmp, symbol_cmp, block_number, block_at, by_order, by_lex, by_reverse_lex, by_place, by_kind, derivative_cmp}
+use Rattle.dz_rank.specs.Rankings.{RankingValue, ranking_cmp, block_number, block_at, by_order, by_lex, by_reverse_lex, by_place, by_kind}
 use Rattle.dz_rank.specs.Symbols.{raised, raised_symbol, exponent_sums, derivative_by, is_derivative, HasFourExponents}
 use Rattle.dz_rank.proofs.Exponents.{sum_of_exponent_sums, exponent_sums_raised}
 

@@ -1,6 +1,6 @@
 -- The table of where dependents stand.
-use Rattle.std.proofs.Common.{◌≡◌, ◌<◌, ◌≤◌, ◌+◌, ◌==◌, ◌||◌, ◌∙◌, ℕ, zero, suc, Bool, true, false, cond, List, [], ◌∷◌, ◌++◌, length, map, slice_index_or, nat_lt, refl, sym, ap, ap₂, subst, arith, All}
-use Rattle.std.specs.List.{list_any, range_with_len}
+use Rattle.std.proofs.Common.{◌≡◌, ◌<◌, ◌≤◌, ◌+◌, ◌==◌, ◌||◌, ◌∙◌, ℕ, suc, Bool, true, false, cond, List, [], ◌∷◌, ◌++◌, length, map, slice_index_or, nat_lt, refl, sym, ap, subst, arith, All}
+use Rattle.std.specs.List.{range_with_len}
 use Rattle.std.proofs.lemmas.List.Folds.{list_any-append, list_any_none}
 use Rattle.std.proofs.Math.ListN.{get_or-eq_default}
 use Rattle.std.proofs.lemmas.List.FromFn.{map-range_with_len_more, get_or-map-range_with_len, length-map-range_with_len}
@@ -8,7 +8,7 @@ use Rattle.dz_rank.specs.declared.rankings.Block.{Block}
 use Rattle.dz_rank.specs.declared.rankings.Signature.{Signature}
 use Rattle.dz_rank.specs.declared.rankings.Kind.TheVariants.{LexA}
 use Rattle.dz_rank.specs.declared.rankings.Standing.{Standing}
-use Rattle.dz_rank.specs.Rankings.{BlockValue, RankingValue, block_values, ranking_value, IsRanking, IsRepeatFree, HasAllBelow, dependents_of, stands_in, block_number, block_at}
+use Rattle.dz_rank.specs.Rankings.{BlockValue, RankingValue, block_values, ranking_value, IsRanking, IsRepeatFree, HasAllBelow, dependents_of, stands_in, block_number}
 use Rattle.dz_rank.specs.Standings.{standing_at, standing_of, standing_in, IsTabled}
 
 pub one_standing_more : (bs : List BlockValue) (u : ℕ) → map (standing_of bs) (range_with_len 0 (u + 1)) ≡ map (standing_of bs) (range_with_len 0 u) ++ standing_of bs u ∷ []

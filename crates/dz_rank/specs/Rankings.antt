@@ -1,5 +1,5 @@
 -- Rankings: blocks of dependents, each with a kind.
-use Rattle.std.specs.Prelude.{◌≡◌, ◌≢◌, ⊤, IsTrue, ◌<◌, ◌≤◌, ℕ, zero, suc, ◌==◌, Bool, cond, List, [], ◌∷◌, ◌++◌, length, take, slice_index_or, map, reverse, sum, All}
+use Rattle.std.specs.Prelude.{◌≡◌, ◌≢◌, ⊤, IsTrue, ◌<◌, ◌≤◌, ℕ, zero, suc, ◌==◌, Bool, cond, List, [], ◌∷◌, length, take, slice_index_or, map, reverse, sum, All}
 use Rattle.std.specs.List.{AllPairs, Contains, concat, list_any}
 use Rattle.std.specs.declared.cmp.Ordering.{Ordering}
 use Rattle.std.specs.declared.cmp.Ordering.TheVariants.{Less, Greater}

@@ -20,13 +20,13 @@ pub(crate) fn order(operator: Operator) -> u16
     u16::from(i) + u16::from(j) + u16::from(k) + u16::from(l)
 }
 
-#[tactic(auto, using(crate::proofs::Exponents::sum_of_exponent_sums))]
 /// The product of two operators, where its total order is at most 60.
+#[tactic(auto, using(crate::proofs::Exponents::sum_of_exponent_sums))]
 fn product(first: Operator, second: Operator) -> Option<Operator>
     ensures { MatchOption result
         (60 < sum (exponent_sums first.counts second.counts))
         (λ product. (product.counts ≡ exponent_sums first.counts second.counts)
-            × (sum product.counts ≤ 60)) }
+        × (sum product.counts ≤ 60)) }
 {
     if GREATEST_ORDER < order(first) + order(second) {
         return None;
@@ -45,19 +45,17 @@ pub fn raise(symbol: Symbol, operator: Operator) -> Option<Symbol>
         (60 < total_order (derivative_by operator symbol))
         (λ raised. (raised ≡ derivative_by operator symbol) × (total_order raised ≤ 60)) }
 {
-    match symbol {
-        Symbol::Independent(_) => unreachable!(),
-        Symbol::Derivative {
-            dependent,
-            operator: first,
-        } => match product(first, operator) {
-            Some(operator) => Some(Symbol::Derivative {
-                dependent,
-                operator,
-            }),
-            None => None,
-        },
-    }
+    let Symbol::Derivative {
+        dependent,
+        operator: first,
+    } = symbol
+    else {
+        unreachable!()
+    };
+    Some(Symbol::Derivative {
+        dependent,
+        operator: product(first, operator)?,
+    })
 }
 
 /// How often each derivation is taken from `divisor` to `multiple`; `None` where one is taken less.

@@ -21,14 +21,9 @@ pub(crate) fn named_dependents(alloc: Global, blocks: &[Block]) -> Result<Vec<u8
     Ok(named)
 }
 
-#[tactic(auto, using(
-    crate::proofs::BlockLists::none_apart,
-    crate::proofs::BlockLists::apart_more,
-    crate::proofs::BlockLists::all_apart,
-    crate::proofs::BlockLists::first_repeat,
-))]
 /// The first dependent that stands before already. Numbers are below 16, so that at most 16 stand
 /// before it, and each search is short.
+#[tactic(auto, using(crate::proofs::BlockLists::none_apart, crate::proofs::BlockLists::apart_more, crate::proofs::BlockLists::all_apart, crate::proofs::BlockLists::first_repeat))]
 pub(crate) fn first_repeat(dependents: &[u8]) -> Option<u8>
     ensures { MatchOption result
         (IsRepeatFree dependents.now)
@@ -42,13 +37,8 @@ pub(crate) fn first_repeat(dependents: &[u8]) -> Option<u8>
     None
 }
 
-#[tactic(auto, using(
-    crate::proofs::BlockLists::none_below,
-    crate::proofs::BlockLists::one_more_below,
-    crate::proofs::BlockLists::all_below,
-    crate::proofs::BlockLists::least_missing,
-))]
 /// The least number below `count` that is missing.
+#[tactic(auto, using(crate::proofs::BlockLists::none_below, crate::proofs::BlockLists::one_more_below, crate::proofs::BlockLists::all_below, crate::proofs::BlockLists::least_missing))]
 pub(crate) fn least_missing(dependents: &[u8], count: u8) -> Option<u8>
     ensures { MatchOption result
         (HasAllBelow count dependents.now)
@@ -62,8 +52,8 @@ pub(crate) fn least_missing(dependents: &[u8], count: u8) -> Option<u8>
     None
 }
 
-#[tactic(auto, using(crate::proofs::Tables::is_ranking))]
 /// Tests whether blocks name each dependent of a signature once.
+#[tactic(auto, using(crate::proofs::Tables::is_ranking))]
 pub(crate) fn check_names(
     alloc: Global,
     signature: Signature,
@@ -76,7 +66,10 @@ pub(crate) fn check_names(
     ensures fault { IfErr result (λ e. IsFaultOf (ranking_value signature blocks.now) e) }
 {
     let named = named_dependents(alloc, blocks).map_err(|_| RankFault::Memory)?;
-    match (first_repeat(&named), least_missing(&named, signature.dependents)) {
+    match (
+        first_repeat(&named),
+        least_missing(&named, signature.dependents),
+    ) {
         (Some(dependent), _) => Err(RankFault::Twice(dependent)),
         (None, Some(dependent)) => Err(RankFault::Missing(dependent)),
         (None, None) => Ok(()),
@@ -88,7 +81,7 @@ fn place_in(dependents: &[u8], dependent: u8) -> Option<usize>
     ensures { MatchOption result
         (stands_in dependent dependents.now ≡ false)
         (λ place. (stands_in dependent dependents.now ≡ true)
-            × (place ≡ place_of dependent dependents.now)) }
+        × (place ≡ place_of dependent dependents.now)) }
 {
     for i in 0..dependents.len() {
         if dependents[i] == dependent {
@@ -118,8 +111,8 @@ fn find_standing(blocks: &[Block], dependent: u8) -> Standing
     }
 }
 
-#[tactic(auto, using(crate::proofs::Tables::one_standing_more))]
 /// Where each dependent below `count` stands.
+#[tactic(auto, using(crate::proofs::Tables::one_standing_more))]
 pub(crate) fn find_standings(
     alloc: Global,
     blocks: &[Block],

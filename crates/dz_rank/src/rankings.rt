@@ -87,13 +87,9 @@ impl Ranking {
     ghost use Rattle.dz_rank.specs.Rankings.{IsRanking, IsFaultOf, IsOrderly, block_number, ranking_cmp};
     ghost use Rattle.dz_rank.specs.Standings.{HaveOneBlock, standing_of};
 
-    #[tactic(auto, using(crate::proofs::Tables::tabled_copy))]
     /// The ranking of a signature by its blocks, the greatest first.
-    pub fn new(
-        alloc: Global,
-        signature: Signature,
-        blocks: &[Block],
-    ) -> Result<Ranking, RankFault>
+    #[tactic(auto, using(crate::proofs::Tables::tabled_copy))]
+    pub fn new(alloc: Global, signature: Signature, blocks: &[Block]) -> Result<Ranking, RankFault>
         requires few_independents { signature.independents ≤ 4 }
         requires few_dependents { signature.dependents ≤ 16 }
         requires below { All (λ u. u < signature.dependents)
@@ -103,8 +99,9 @@ impl Ranking {
         ensures fault { IfErr result (λ e. IsFaultOf (ranking_value signature blocks.now) e) }
     {
         check_names(alloc, signature, blocks)?;
-        let standings = find_standings(alloc, blocks, signature.dependents)
-            .map_err(|_| RankFault::Memory)?;
+        let standings = find_standings(alloc, blocks, signature.dependents).map_err(
+            |_| RankFault::Memory,
+        )?;
         let blocks = copy_blocks(alloc, blocks).map_err(|_| RankFault::Memory)?;
         Ok(Ranking {
             signature,
@@ -135,17 +132,13 @@ impl Ranking {
         }
     }
 
-    #[tactic(auto, using(
-        crate::proofs::Orderly::none_in_block,
-        crate::proofs::Orderly::one_more_in_block,
-        crate::proofs::Orderly::all_in_block,
-    ))]
     /// Whether all dependents stand in the block of the first.
+    #[tactic(auto, using(crate::proofs::Orderly::none_in_block, crate::proofs::Orderly::one_more_in_block, crate::proofs::Orderly::all_in_block))]
     fn has_one_block(&self) -> bool
         ensures { MatchBool result
             (HaveOneBlock self.now.signature.dependents self.now.blocks)
             ((u : ℕ) × (u < self.now.signature.dependents)
-                × (block_number self.now.blocks u ≢ block_number self.now.blocks 0)) }
+            × (block_number self.now.blocks u ≢ block_number self.now.blocks 0)) }
     {
         for u in 0..self.signature.dependents {
             if self.standing(u).block != self.standing(0).block {
@@ -155,14 +148,8 @@ impl Ranking {
         true
     }
 
-    #[tactic(auto, using(
-        crate::proofs::Orderly::orderly_without_independents,
-        crate::proofs::Orderly::orderly_without_dependents,
-        crate::proofs::Orderly::orderly_of_one_block,
-        crate::proofs::Orderly::not_orderly_of_two_blocks,
-        crate::proofs::Orderly::not_orderly_of_lex,
-    ))]
     /// Whether a greater total order always makes a greater derivative.
+    #[tactic(auto, using(crate::proofs::Orderly::orderly_without_independents, crate::proofs::Orderly::orderly_without_dependents, crate::proofs::Orderly::orderly_of_one_block, crate::proofs::Orderly::not_orderly_of_two_blocks, crate::proofs::Orderly::not_orderly_of_lex))]
     pub fn is_orderly(&self) -> bool
         ensures { IsTrue result ↔ IsOrderly self.now }
     {

@@ -45,7 +45,11 @@ fn worked_rankings(rt: HostRuntime) -> Result<(), RankFault> {
         (Kind::LexA, derivative(1, 1, 0, 0), derivative(0, 0, 2, 0)),
         (Kind::GrlexA, derivative(0, 0, 2, 0), derivative(1, 1, 0, 0)),
         (Kind::GrlexA, derivative(0, 1, 0, 1), derivative(0, 0, 2, 0)),
-        (Kind::DegrevA, derivative(0, 0, 2, 0), derivative(0, 1, 0, 1)),
+        (
+            Kind::DegrevA,
+            derivative(0, 0, 2, 0),
+            derivative(0, 1, 0, 1),
+        ),
     ] {
         let blocks = block(alloc, kind, &[0, 1]).map_err(|_| RankFault::Memory)?;
         let ranking = Ranking::new(alloc, signature, &blocks)?;
@@ -54,8 +58,18 @@ fn worked_rankings(rt: HostRuntime) -> Result<(), RankFault> {
     let twice = block(alloc, Kind::GrlexA, &[0, 0]).map_err(|_| RankFault::Memory)?;
     let missing = block(alloc, Kind::GrlexA, &[1]).map_err(|_| RankFault::Memory)?;
     let good = block(alloc, Kind::GrlexA, &[1, 0]).map_err(|_| RankFault::Memory)?;
-    assert!(rt; matches!(Ranking::new(alloc, signature, &twice), Err(RankFault::Twice(0))));
-    assert!(rt; matches!(Ranking::new(alloc, signature, &missing), Err(RankFault::Missing(0))));
+    assert!(rt;
+        matches!(
+            Ranking::new(alloc, signature, &twice),
+            Err(RankFault::Twice(0))
+        )
+    );
+    assert!(rt;
+        matches!(
+            Ranking::new(alloc, signature, &missing),
+            Err(RankFault::Missing(0))
+        )
+    );
     assert!(rt; matches!(Ranking::new(alloc, signature, &good), Ok(_)));
     Ok(())
 }

@@ -1,4 +1,4 @@
-use Rattle.std.proofs.Common.{◌≡◌, ℤ, pos, slice_index_or, unsigned_abs, rules, arith}
+use Rattle.std.proofs.Common.{◌≡◌, pos, slice_index_or, unsigned_abs, rules, arith}
 use Rattle.dz_int.proofs.Contents.{content_step, content_is_one}
 use Rattle.dz_int.proofs.divisors.content.Goals as goal
 

@@ -1,4 +1,4 @@
-use Rattle.std.proofs.Common.{◌≤◌, ◌+◌, ◌*◌, unsigned_abs, rules, arith}
+use Rattle.std.proofs.Common.{◌≤◌, ◌+◌, ◌*◌, unsigned_abs, rules}
 use Rattle.dz_int.specs.Numbers.{greatest}
 use Rattle.dz_int.proofs.Signs.{sum_fits, sum_read}
 use Rattle.dz_int.proofs.fractions.sum_in_range.Goals as goal

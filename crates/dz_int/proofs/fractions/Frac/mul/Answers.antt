@@ -1,4 +1,4 @@
-use Rattle.std.proofs.Common.{◌≡◌, ◌*◌, rules, sym, subst}
+use Rattle.std.proofs.Common.{◌*◌, rules, sym, subst}
 use Rattle.dz_int.specs.Euclid.{AreParts, HasNoParts}
 use Rattle.dz_int.specs.Fractions.{IsProduct}
 use Rattle.dz_int.proofs.Reduced.{coprime_gcd, product_leaves_range, product_value}

@@ -1,5 +1,4 @@
-use Rattle.std.proofs.Common.{◌≡◌, ℤ, rules, sym, subst, pos, arith}
-use Rattle.std.specs.Prelude.{neg_ℤ}
+use Rattle.std.proofs.Common.{subst, arith}
 use Rattle.std.proofs.lemmas.Int.{ints}
 use Rattle.dz_int.specs.Fractions.{IsFraction}
 use Rattle.dz_int.proofs.Reduced.{negated}
