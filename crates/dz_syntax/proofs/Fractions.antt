@@ -22,8 +22,10 @@ cancelled a b k x y n d p e f h = same k (a * y) (x * b) p (turned a k y ∙ ap 
   where
     turned : (a k y : ℕ) → k * (a * y) ≡ a * (k * y)
     turned a k y = omega arith
+
     moved : (k x b : ℕ) → (k * x) * b ≡ k * (x * b)
     moved k x b = omega arith
+
     same : (k m n : ℕ) → 0 < k → k * m ≡ k * n → m ≡ n
     same k m n p e = grind arith
 

@@ -33,9 +33,15 @@ pub record Tree : Type 0 where
 -- what a tree of the code's own type means
 abbrev pub tree_of : SystemTree → Tree
 tree_of t = record {
-    names = t.names; signature = t.signature; blocks = block_values t.blocks.items;
-    equations = t.equations.items; inequations = t.inequations.items;
-    questions = t.questions.items; values = t.values.items; document = t.document }
+  names = t.names;
+  signature = t.signature;
+  blocks = block_values t.blocks.items;
+  equations = t.equations.items;
+  inequations = t.inequations.items;
+  questions = t.questions.items;
+  values = t.values.items;
+  document = t.document;
+}
 
 -- "derivations" [names] ";" "ranking" {block} ";"
 unfoldable pub header_at : Declared → List ℕ → Result (Declared × List BlockValue × List ℕ) Fault
@@ -52,9 +58,15 @@ system_at form bytes = do
   i ← section_at Inequations h.0 e.1
   r ← rest_at form (length bytes) h.0 i.1
   Ok (record {
-      names = h.0; signature = signature_of h.0; blocks = h.1;
-      equations = e.0; inequations = i.0;
-      questions = r.questions; values = r.values; document = r.document })
+    names = h.0;
+    signature = signature_of h.0;
+    blocks = h.1;
+    equations = e.0;
+    inequations = i.0;
+    questions = r.questions;
+    values = r.values;
+    document = r.document;
+  })
 
 -- the tree of a text in a form, or the first fault
 unfoldable pub system_of : Form → List ℕ → Result Tree SyntaxFault

@@ -22,8 +22,9 @@ use Rattle.dz_syntax.specs.Marks.{expected, is_equals}
 -- n over d, reduced
 abbrev pub fraction_of : ℤ → ℕ → Fraction
 fraction_of n d = record {
-    numerator = signed (is_negative n) (unsigned_abs n / gcd (unsigned_abs n) d);
-    denominator = d / gcd (unsigned_abs n) d }
+  numerator = signed (is_negative n) (unsigned_abs n / gcd (unsigned_abs n) d);
+  denominator = d / gcd (unsigned_abs n) d;
+}
 
 -- ["-"] number
 abbrev pub numerator_from : Token → List ℕ → Result (ℤ × List ℕ) Fault

@@ -5,9 +5,9 @@ ghost use Rattle.dz_syntax.specs.Faults.{Gives};
 ghost use Rattle.dz_syntax.specs.Atoms.{independent_at, literal_at, names_in, symbol_at};
 ghost use Rattle.dz_syntax.specs.Names.{FitsSymbol};
 
-use crate::fault::{SyntaxKind, Stop, fault_at, unexpected};
-use crate::number::number_of;
+use crate::fault::{Stop, SyntaxKind, fault_at, unexpected};
 use crate::names::Names;
+use crate::number::number_of;
 use crate::token::{Token, bytes_of, next};
 use dz_rank::{Operator, Symbol};
 

@@ -52,8 +52,11 @@ fn block<'a>(
     names: &mut Names,
     text: &'a [u8],
 ) -> Result<(Block, &'a [u8]), Stop>
-    ensures read { Gives (λ x. (names.new,
-            record { kind = x.0.kind; dependents = x.0.dependents.items }, x.1.now)) result
+    ensures read { Gives (λ x. (
+      names.new,
+      record { kind = x.0.kind; dependents = x.0.dependents.items },
+      x.1.now,
+    )) result
         (block_at kind names.old text.now) }
     ensures shorter { IfOk result (λ x. length x.1.now ≤ length text.now) }
 {

@@ -5,7 +5,7 @@ ghost use Rattle.dz_syntax.specs.Faults.{Gives};
 ghost use Rattle.dz_syntax.specs.Names.{HasRoom, known};
 ghost use Rattle.dz_syntax.specs.Declarations.{new_name, declarations};
 
-use crate::fault::{SyntaxKind, Stop, fault_at, unexpected};
+use crate::fault::{Stop, SyntaxKind, fault_at, unexpected};
 use crate::names::{Group, Names};
 use crate::token::{Token, bytes_of, next};
 use std::alloc::Global;

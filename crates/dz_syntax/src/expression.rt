@@ -6,7 +6,7 @@ ghost use Rattle.dz_syntax.specs.Tokens.{front, behind};
 ghost use Rattle.dz_syntax.specs.Expressions.{State, inside, poly_with, product_with, power_with, atom_with, exponent_at, number_op, symbol_op, sums, factors};
 
 use crate::atom::{literal, symbol};
-use crate::fault::{SyntaxKind, Stop, fault_at, unexpected};
+use crate::fault::{Stop, SyntaxKind, fault_at, unexpected};
 use crate::names::Names;
 use crate::token::{Token, next};
 use dz_rank::Symbol;
@@ -64,12 +64,7 @@ fn exponent<'a>(out: &mut Vec<Op>, text: &'a [u8]) -> Result<&'a [u8], Stop>
 
 #[cycle(poly)]
 #[tactic(auto, unfolding(crate::specs::Expressions::power_with))]
-fn power<'a>(
-    names: &Names,
-    levels: u8,
-    out: &mut Vec<Op>,
-    text: &'a [u8],
-) -> Result<&'a [u8], Stop>
+fn power<'a>(names: &Names, levels: u8, out: &mut Vec<Op>, text: &'a [u8]) -> Result<&'a [u8], Stop>
     ensures read { Gives (λ t. record { out = out.new.items; text = t.now }) result
         (power_with names.now (inside names.now levels) (record { out = out.old.items; text = text.now })) }
     ensures shorter { IfOk result (λ t. length t.now ≤ length text.now) }
@@ -83,12 +78,7 @@ fn power<'a>(
 
 #[cycle(poly)]
 #[tactic(auto, unfolding(crate::specs::Expressions::atom_with))]
-fn atom<'a>(
-    names: &Names,
-    levels: u8,
-    out: &mut Vec<Op>,
-    text: &'a [u8],
-) -> Result<&'a [u8], Stop>
+fn atom<'a>(names: &Names, levels: u8, out: &mut Vec<Op>, text: &'a [u8]) -> Result<&'a [u8], Stop>
     ensures read { Gives (λ t. record { out = out.new.items; text = t.now }) result
         (atom_with names.now (inside names.now levels) (record { out = out.old.items; text = text.now })) }
     ensures shorter { IfOk result (λ t. length t.now ≤ length text.now) }

@@ -97,5 +97,4 @@ pub fn read_item(alloc: Global, names: &Names, bytes: &[u8]) -> Result<Item, Syn
 pub fn one_reading()
     ensures { (names : Declared) (bytes : List ℕ) (a b : List Op)
         → IsItem names bytes a → IsItem names bytes b → a ≡ b }
-{
-}
+{}

@@ -87,26 +87,37 @@ fn expressions(rt: HostRuntime) -> Result<(), Fail> {
     }
     let u = Op::Symbol(derivative(1, [0; 4]));
     let v = Op::Symbol(derivative(0, [0; 4]));
-    assert!(rt; is_item(read_item(alloc, names, b"- u*u + v"), &[u, u, Op::Mul, Op::Negate, v, Op::Add]));
+    assert!(rt;
+        is_item(
+            read_item(alloc, names, b"- u*u + v"),
+            &[u, u, Op::Mul, Op::Negate, v, Op::Add]
+        )
+    );
     assert!(rt; is_item(read_item(alloc, names, b"u # -\r-\n - v"), &[u, v, Op::Sub]));
-    assert!(rt; is_item(
-        read_item(alloc, names, b"-(x - u[y,x,y])^0065535"),
-        &[
-            Op::Symbol(Symbol::Independent(0)),
-            Op::Symbol(derivative(1, [1, 2, 0, 0])),
-            Op::Sub,
-            Op::Power(65_535),
-            Op::Negate,
-        ]
-    ));
-    assert!(rt; is_item(
-        read_item(alloc, names, b"170141183460469231731687303715884105727"),
-        &[Op::Number(170_141_183_460_469_231_731_687_303_715_884_105_727)]
-    ));
-    assert!(rt; is_item(
-        read_item(alloc, names, &repeated(alloc, b"u[x", 59, b",x", b"]")?),
-        &[Op::Symbol(derivative(1, [60, 0, 0, 0]))]
-    ));
+    assert!(rt;
+        is_item(
+            read_item(alloc, names, b"-(x - u[y,x,y])^0065535"),
+            &[
+                Op::Symbol(Symbol::Independent(0)),
+                Op::Symbol(derivative(1, [1, 2, 0, 0])),
+                Op::Sub,
+                Op::Power(65_535),
+                Op::Negate,
+            ]
+        )
+    );
+    assert!(rt;
+        is_item(
+            read_item(alloc, names, b"170141183460469231731687303715884105727"),
+            &[Op::Number(170_141_183_460_469_231_731_687_303_715_884_105_727)]
+        )
+    );
+    assert!(rt;
+        is_item(
+            read_item(alloc, names, &repeated(alloc, b"u[x", 59, b",x", b"]")?),
+            &[Op::Symbol(derivative(1, [60, 0, 0, 0]))]
+        )
+    );
     let orders = repeated(alloc, b"u[x", 60, b",x", b"]")?;
     assert!(rt; is_fault(read_item(alloc, names, &orders), 122, SyntaxKind::Order));
     let mut open = repeated(alloc, b"", 64, b"(", b"u")?;
@@ -124,17 +135,42 @@ fn expressions(rt: HostRuntime) -> Result<(), Fail> {
 fn systems(rt: HostRuntime) -> Result<(), Fail> {
     let alloc = rt.alloc();
     for (form, text, place, kind) in [
-        (Form::Plain, b"derivations end;".as_slice(), 12, SyntaxKind::Unexpected),
-        (Form::Plain, b"derivations a,b,c,d,a;".as_slice(), 20, SyntaxKind::Twice),
-        (Form::Plain, b"derivations a,b,c,d,e;".as_slice(), 20, SyntaxKind::Names),
-        (Form::Plain, b"derivations x;ranking lexA[x];".as_slice(), 27, SyntaxKind::Twice),
+        (
+            Form::Plain,
+            b"derivations end;".as_slice(),
+            12,
+            SyntaxKind::Unexpected,
+        ),
+        (
+            Form::Plain,
+            b"derivations a,b,c,d,a;".as_slice(),
+            20,
+            SyntaxKind::Twice,
+        ),
+        (
+            Form::Plain,
+            b"derivations a,b,c,d,e;".as_slice(),
+            20,
+            SyntaxKind::Names,
+        ),
+        (
+            Form::Plain,
+            b"derivations x;ranking lexA[x];".as_slice(),
+            27,
+            SyntaxKind::Twice,
+        ),
         (
             Form::Plain,
             b"derivations;ranking lexA[a,b,c,d]lexA[e,f,g,h,i,j,k,l,m,n,o,p,q];".as_slice(),
             62,
             SyntaxKind::Names,
         ),
-        (Form::Plain, b"derivations;ranking u;".as_slice(), 20, SyntaxKind::Unexpected),
+        (
+            Form::Plain,
+            b"derivations;ranking u;".as_slice(),
+            20,
+            SyntaxKind::Unexpected,
+        ),
         (
             Form::Plain,
             b"derivations;ranking lexA[u];equations u!=1;".as_slice(),
@@ -219,7 +255,9 @@ fn trees(rt: HostRuntime) -> Result<(), Fail> {
     let plain = repeated(alloc, text, 1, b"end # all\n ", b"")?;
     let tree = read_system(alloc, &plain, Form::Plain).ok().ok_or("plain")?;
     assert!(rt; tree.signature.independents == 2 && tree.signature.dependents == 3);
-    assert!(rt; tree.names.independent(1) == b"s".as_slice() && tree.names.dependent(1) == b"_a1".as_slice());
+    assert!(rt;
+        tree.names.independent(1) == b"s".as_slice() && tree.names.dependent(1) == b"_a1".as_slice()
+    );
     assert!(rt; tree.names.find(b"y") == Some(derivative(2, [0; 4])));
     assert!(rt; tree.names.find(b"t") == Some(Symbol::Independent(0)));
     assert!(rt; tree.names.find(b"lexA").is_none());
@@ -238,7 +276,9 @@ fn trees(rt: HostRuntime) -> Result<(), Fail> {
     assert!(rt; tree.questions.len() == 2);
     assert!(rt; tree.questions[1].steps() == [Op::Number(7)].as_slice());
     let values = repeated(alloc, text, 1, b"values y[s] = -6/4, t = 007; end", b"")?;
-    let tree = read_system(alloc, &values, Form::Values).ok().ok_or("values")?;
+    let tree = read_system(alloc, &values, Form::Values)
+        .ok()
+        .ok_or("values")?;
     assert!(rt; tree.values.len() == 2);
     let (symbol, fraction) = tree.values[0];
     assert!(rt; symbol == derivative(2, [0, 1, 0, 0]));

@@ -144,7 +144,9 @@ fn value<'a>(
     text: &'a [u8],
 ) -> Result<(Written, &'a [u8]), Stop>
     ensures read { Gives (λ x. (
-            (x.0.symbol, fraction_of x.0.numerator x.0.denominator), x.1.now)) result
+      (x.0.symbol, fraction_of x.0.numerator x.0.denominator),
+      x.1.now,
+    )) result
         (value_at names.now valued.now.keys text.now) }
     ensures new { IfOk result (λ x.
         list_any (λ w. same_symbol x.0.symbol w) valued.now.keys ≡ false) }
