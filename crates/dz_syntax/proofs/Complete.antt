@@ -28,7 +28,7 @@ IsComplete k g r = (s : State) (o : List Op) (rest : List ℕ) → g s.text o re
 pub on_ok : {A B : Type 0} (r : Result A Fault) (x : A) (f : A → Result B Fault) → r ≡ Ok x → (r >>= f) ≡ f x
 on_ok r x f e = rw e refl
 
-literal_complete : (most : ℕ) (kind : SyntaxKind) (text : List ℕ) (n : ℕ) (rest : List ℕ) → IsNumber most text n rest → literal_at most kind text ≡ Ok (n, rest)
+pub literal_complete : (most : ℕ) (kind : SyntaxKind) (text : List ℕ) (n : ℕ) (rest : List ℕ) → IsNumber most text n rest → literal_at most kind text ≡ Ok (n, rest)
 unfolding literal_at
 literal_complete most kind text n rest a =
     let fits : leb (number_from 0 (bytes_of text)) most ≡ true = rw a.value (le-leb n most a.bound) in
@@ -40,7 +40,7 @@ symbol_name : (names : Declared) (t : Token) (text : List ℕ) (x : _) → symbo
 symbol_name names Name text x e = refl
 symbol_name names t text x e = absurd cc
 
-symbol_front : (names : Declared) (text : List ℕ) (x : _) → symbol_at names text ≡ Ok x → front text ≡ Name
+pub symbol_front : (names : Declared) (text : List ℕ) (x : _) → symbol_at names text ≡ Ok x → front text ≡ Name
 unfolding symbol_at
 symbol_front names text x e = symbol_name names (front text) text x e
 

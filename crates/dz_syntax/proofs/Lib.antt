@@ -10,3 +10,9 @@ pub mod Fractions
 pub mod Given
 pub mod BlockLists
 pub mod SeparatedLists
+pub mod NamesGrammar
+pub mod BlocksGrammar
+pub mod ListsGrammar
+pub mod ItemsGrammar
+pub mod ValuesGrammar
+pub mod SystemReadings

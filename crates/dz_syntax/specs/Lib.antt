@@ -11,5 +11,6 @@ pub mod Values
 pub mod Endings
 pub mod Systems
 pub mod Grammar
+pub mod SystemGrammar
 pub mod Items
 pub mod Declarations

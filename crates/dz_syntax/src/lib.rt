@@ -24,4 +24,4 @@ pub use expression::Op;
 pub use fault::{SyntaxFault, SyntaxKind};
 pub use item::{Item, one_reading, read_item};
 pub use names::Names;
-pub use system::{SystemTree, read_system};
+pub use system::{SystemTree, one_tree, read_system};

@@ -1,11 +1,13 @@
 //! Whole systems.
 
-ghost use Rattle.std.specs.Prelude.{◌≡◌, []};
+ghost use Rattle.std.specs.Prelude.{◌≡◌, [], ℕ, List, IfOk, Ok};
 ghost use Rattle.dz_rank.specs.Rankings.{block_values};
 ghost use Rattle.dz_syntax.specs.Faults.{Gives};
 ghost use Rattle.dz_syntax.specs.Names.{no_names};
 ghost use Rattle.dz_syntax.specs.Items.{Answers};
-ghost use Rattle.dz_syntax.specs.Systems.{header_at, system_at, system_of, tree_of};
+ghost use Rattle.dz_syntax.specs.Systems.{Tree, header_at, system_at, system_of, tree_of};
+ghost use Rattle.dz_syntax.specs.SystemGrammar.{IsSystem};
+ghost use Rattle.dz_syntax.specs.declared.endings.Form.{Form};
 
 use crate::blocks::{blocks, independents};
 use crate::endings::{Form, rest};
@@ -78,11 +80,10 @@ fn system(alloc: Global, bytes: &[u8], form: Form) -> Result<SystemTree, Stop>
     })
 }
 
-/// Reads a system text in a form: the one tree, or the first fault.
+// The same, with the place of a fault.
 #[tactic(auto, unfolding(crate::specs::Systems::system_of))]
-pub fn read_system(alloc: Global, bytes: &[u8], form: Form) -> Result<SystemTree, SyntaxFault>
-    // Which tree it is, or which fault.
-    ensures exact { Answers (λ t. tree_of t) result (system_of form bytes.now) }
+fn placed_system(alloc: Global, bytes: &[u8], form: Form) -> Result<SystemTree, SyntaxFault>
+    ensures { Answers (λ t. tree_of t) result (system_of form bytes.now) }
 {
     match system(alloc, bytes, form) {
         Ok(tree) => Ok(tree),
@@ -95,4 +96,26 @@ pub fn read_system(alloc: Global, bytes: &[u8], form: Form) -> Result<SystemTree
             kind: fault.kind,
         }),
     }
+}
+
+/// Reads a system text in a form: the one tree that the grammar derives from it, or the first
+/// fault.
+pub fn read_system(alloc: Global, bytes: &[u8], form: Form) -> Result<SystemTree, SyntaxFault>
+    // What is read is in the grammar.
+    ensures found { IfOk result (λ t. IsSystem form bytes.now (tree_of t)) }
+    // What is in the grammar is read, unless memory runs out.
+    ensures only { (tree : Tree) → IsSystem form bytes.now tree
+        → Answers (λ t. tree_of t) result (Ok tree) }
+    // Which fault it is.
+    ensures exact { Answers (λ t. tree_of t) result (system_of form bytes.now) }
+{
+    placed_system(alloc, bytes, form)
+}
+
+/// A text has at most one tree in a form. The law is for contracts alone: the call does nothing
+/// when it runs.
+pub fn one_tree()
+    ensures { (form : Form) (bytes : List ℕ) (a b : Tree)
+        → IsSystem form bytes a → IsSystem form bytes b → a ≡ b }
+{
 }
