@@ -1,5 +1,5 @@
 -- One turn of the loop over blocks.
-use Rattle.std.proofs.Common.{◌≡◌, ℕ, zero, suc, ◌-◌, ◌<◌, List, [], ◌∷◌, ◌++◌, Result, Ok, Err, Option, Some, None, IsTrue, refl, sym, ap, ◌∙◌, arith}
+use Rattle.std.proofs.Common.{◌≡◌, ℕ, zero, suc, ◌-◌, ◌<◌, List, [], ◌∷◌, ◌++◌, Result, Ok, Option, Some, None, IsTrue, refl, sym, ◌∙◌, arith}
 use Rattle.dz_rank.specs.declared.rankings.Kind.{Kind}
 use Rattle.dz_rank.specs.Rankings.{BlockValue}
 use Rattle.dz_syntax.specs.declared.token.Token.{Token}

@@ -3,7 +3,7 @@ use Rattle.std.proofs.Common.{◌≡◌, ◌⊎◌, ℕ, zero, suc, ◌<◌, ◌
 use Rattle.dz_rank.specs.declared.rankings.Kind.{Kind}
 use Rattle.dz_rank.specs.Rankings.{BlockValue}
 use Rattle.dz_syntax.specs.declared.token.Token.{Token}
-use Rattle.dz_syntax.specs.declared.token.Token.TheVariants.{Comma, Semicolon}
+use Rattle.dz_syntax.specs.declared.token.Token.TheVariants.{Semicolon}
 use Rattle.dz_syntax.specs.declared.fault.Fault.{Fault}
 use Rattle.dz_syntax.specs.declared.names.Group.TheVariants.{Independents, Dependents}
 use Rattle.dz_syntax.specs.Tokens.{front, behind}

@@ -1,10 +1,9 @@
 -- A reduced fraction is fixed by its value.
-use Rattle.std.proofs.Common.{◌≡◌, ◌<◌, ◌≤◌, ◌*◌, ◌/◌, ◌∙◌, ℕ, ℤ, ◌*ℤ◌, pos, unsigned_abs, refl, sym, ap, ap₂, subst, arith}
-use Rattle.std.specs.Int.{IsGcd, ◌∣◌, is_negative}
+use Rattle.std.proofs.Common.{◌≡◌, ◌<◌, ◌*◌, ◌/◌, ◌∙◌, ℕ, ℤ, ◌*ℤ◌, pos, unsigned_abs, refl, sym, ap, ap₂, subst, arith}
+use Rattle.std.specs.Int.{is_negative}
 use Rattle.std.proofs.lemmas.Int.{unsigned_abs-mul}
 use Rattle.std.proofs.lemmas.Nat.Gcd.{same_from_IsGcd}
-use Rattle.dz_int.specs.Numbers.{greatest, signed}
-use Rattle.dz_int.specs.Fractions.{Fraction, IsReduced, IsFraction, HasValue}
+use Rattle.dz_int.specs.Fractions.{Fraction, IsFraction, HasValue}
 use Rattle.dz_int.specs.Euclid.{gcd}
 use Rattle.dz_int.proofs.Coprime.{gcd_is, same_parts}
 use Rattle.dz_int.proofs.Signs.{by_sign, cancel_pos}

@@ -1,20 +1,18 @@
 -- Items in a list: what is read is in the grammar, and what is in the grammar is read.
-use Rattle.std.proofs.Common.{◌≡◌, ◌⊎◌, ℕ, ◌<◌, ◌≤◌, ◌+◌, length, List, [], ◌∷◌, ◌++◌, Result, Ok, Bool, true, false, refl, sym, ap, subst, ◌∙◌, inl, inr, arith}
+use Rattle.std.proofs.Common.{◌≡◌, ℕ, ◌<◌, ◌≤◌, length, List, [], ◌∷◌, ◌++◌, Ok, Bool, true, false, refl, sym, ap, subst, ◌∙◌, inl, inr, arith}
 use Rattle.dz_syntax.specs.declared.token.Token.{Token}
 use Rattle.dz_syntax.specs.declared.token.Token.TheVariants.{Comma, Semicolon, Equals, Differs}
-use Rattle.dz_syntax.specs.declared.fault.Fault.{Fault}
 use Rattle.dz_syntax.specs.declared.marks.Section.{Section}
 use Rattle.dz_syntax.specs.declared.marks.Section.TheVariants.{Equations, Inequations, Questions}
 use Rattle.dz_syntax.specs.declared.expression.Op.{Op}
 use Rattle.dz_syntax.specs.declared.expression.Op.TheVariants as ops
 use Rattle.dz_syntax.specs.Tokens.{front, behind}
 use Rattle.dz_syntax.specs.Names.{Declared}
-use Rattle.dz_syntax.specs.Faults.{◌>>=◌}
 use Rattle.dz_syntax.specs.Expressions.{State, past, poly_with, inside}
 use Rattle.dz_syntax.specs.Grammar.{Grammar, binding, IsAtom, IsPower, IsPoly, IsInside}
 use Rattle.dz_syntax.specs.Marks.{expected, is_word_of, is_relation, is_semicolon}
 use Rattle.dz_syntax.specs.Sections.{element_of, items_from, section_at, sides_at, sides_from}
-use Rattle.dz_syntax.specs.SystemGrammar.{Stands, IsSides, IsItemOf, IsList, IsSection}
+use Rattle.dz_syntax.specs.SystemGrammar.{IsSides, IsItemOf, IsSection}
 use Rattle.dz_syntax.proofs.Sound.{bind_ok, ok_is, poly_sound, inside_sound}
 use Rattle.dz_syntax.proofs.Complete.{then, on_ok, poly_complete, inside_complete, symbol_front}
 use Rattle.dz_syntax.proofs.Shorter.{behind_within, poly_within, inside_within}
@@ -103,8 +101,9 @@ power_starts names g text o rest (inr a) = atom_starts names g text a.0 a.1 a.3
 
 poly_starts : (names : Declared) (g : Grammar) (text : List ℕ) (o : List Op) (rest : List ℕ) → IsPoly names g text o rest → is_semicolon (front text) ≡ false
 poly_starts names g text o rest a = elim a.4 [
-    inl p ↦ power_starts names g text p.0 p.2 p.4
-  | inr q ↦ elim q [ inl p ↦ ap is_semicolon p.0 | inr p ↦ ap is_semicolon p.1 ] ]
+  | inl p ↦ power_starts names g text p.0 p.2 p.4
+  | inr q ↦ elim q [ inl p ↦ ap is_semicolon p.0 | inr p ↦ ap is_semicolon p.1 ]
+]
 
 sides_starts : (section : Section) (names : Declared) (text : List ℕ) (o : List Op) (rest : List ℕ) → IsSides section names text o rest → is_semicolon (front text) ≡ false
 sides_starts section names text o rest (inl p) = poly_starts names (IsInside names 64) text o rest p

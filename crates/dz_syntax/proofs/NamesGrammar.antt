@@ -1,5 +1,5 @@
 -- Lists of declared names: what is read is in the grammar, and what is in the grammar is read.
-use Rattle.std.proofs.Common.{◌≡◌, ℕ, zero, suc, ◌<◌, ◌≤◌, ◌-◌, length, List, [], ◌∷◌, Result, Ok, Bool, true, false, refl, sym, ap, subst, ◌∙◌, arith}
+use Rattle.std.proofs.Common.{◌≡◌, ℕ, zero, suc, ◌<◌, ◌≤◌, length, List, Result, Ok, Bool, true, false, refl, sym, ap, subst, ◌∙◌, arith}
 use Rattle.std.specs.Prelude.{if◌then◌else◌}
 use Rattle.dz_syntax.specs.declared.token.Token.{Token}
 use Rattle.dz_syntax.specs.declared.token.Token.TheVariants.{Name, Comma}
@@ -8,7 +8,7 @@ use Rattle.dz_syntax.specs.declared.fault.SyntaxKind.TheVariants.{Twice, Names}
 use Rattle.dz_syntax.specs.declared.names.Group.{Group}
 use Rattle.dz_syntax.specs.Tokens.{front, behind, bytes_of}
 use Rattle.dz_syntax.specs.Names.{Declared, declared, known}
-use Rattle.dz_syntax.specs.Faults.{◌>>=◌, refuse}
+use Rattle.dz_syntax.specs.Faults.{refuse}
 use Rattle.dz_syntax.specs.Declarations.{new_name, new_name_from, declarations, declarations_go_on}
 use Rattle.dz_syntax.specs.Marks.{expected}
 use Rattle.dz_syntax.specs.SystemGrammar.{Stands, IsNewName, IsMoreNames, IsNames}

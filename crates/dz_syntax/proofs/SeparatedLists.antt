@@ -1,5 +1,5 @@
 -- One turn of a loop over what commas separate.
-use Rattle.std.proofs.Common.{◌≡◌, ℕ, zero, suc, ◌-◌, ◌<◌, List, [], ◌∷◌, ◌++◌, Result, Ok, Err, refl, sym, ap, ◌∙◌, arith}
+use Rattle.std.proofs.Common.{◌≡◌, ℕ, zero, suc, ◌-◌, ◌<◌, List, [], ◌∷◌, ◌++◌, Result, Ok, refl, sym, ap, ◌∙◌, arith}
 use Rattle.dz_syntax.specs.declared.token.Token.{Token}
 use Rattle.dz_syntax.specs.declared.token.Token.TheVariants.{Comma}
 use Rattle.dz_syntax.specs.declared.fault.Fault.{Fault}

@@ -1,11 +1,10 @@
 -- The reading of a system, and the grammar.
-use Rattle.std.proofs.Common.{◌≡◌, ◌⊎◌, ℕ, ◌-◌, length, List, [], ◌∷◌, drop, Result, Ok, Err, Bool, true, false, refl, sym, ap, subst, ◌∙◌, inl, inr, arith}
+use Rattle.std.proofs.Common.{◌≡◌, ℕ, ◌-◌, length, List, [], ◌∷◌, drop, Result, Ok, Err, Bool, true, false, refl, sym, ap, ◌∙◌, arith}
 use Rattle.std.proofs.lemmas.Bool.Decides.{nat_tests}
 use Rattle.std.specs.Prelude.{IfOk, if◌then◌else◌, ◌==◌}
 use Rattle.dz_int.specs.Fractions.{Fraction}
 use Rattle.dz_rank.specs.declared.symbols.Symbol.{Symbol}
 use Rattle.dz_rank.specs.Rankings.{BlockValue}
-use Rattle.dz_syntax.specs.declared.token.Token.{Token}
 use Rattle.dz_syntax.specs.declared.fault.Fault.{Fault}
 use Rattle.dz_syntax.specs.declared.fault.SyntaxFault.{SyntaxFault}
 use Rattle.dz_syntax.specs.declared.fault.SyntaxKind.TheVariants.{Unexpected}
@@ -23,7 +22,7 @@ use Rattle.dz_syntax.specs.Sections.{section_at}
 use Rattle.dz_syntax.specs.Endings.{Rest, end_at, values_from, values_at, line_from, document_at, rest_at}
 use Rattle.dz_syntax.specs.Items.{placed, Answers}
 use Rattle.dz_syntax.specs.Systems.{Tree, tree_of, header_at, system_at, system_of}
-use Rattle.dz_syntax.specs.SystemGrammar.{Stands, IsValue, IsList, IsSection, IsEnd, IsRest, IsHeader, IsSystem}
+use Rattle.dz_syntax.specs.SystemGrammar.{Stands, IsValue, IsList, IsEnd, IsRest, IsSystem}
 use Rattle.dz_syntax.proofs.Sound.{bind_ok, ok_is}
 use Rattle.dz_syntax.proofs.Complete.{on_ok}
 use Rattle.dz_syntax.proofs.NamesGrammar.{stands_sound, stands_complete}
@@ -43,10 +42,11 @@ end_sound text rest e =
 
 end_complete : (text : List ℕ) → IsEnd text → (rest : List ℕ) × (end_at text ≡ Ok rest)
 unfolding end_at
-end_complete text a =
-    (behind a.0,
-    on_ok (expected (is_end (front text)) text) a.0 (λ t. expected (is_nothing (front t)) t) (stands_complete is_end text a.0 a.1)
-    ∙ stands_complete is_nothing a.0 (behind a.0) (a.2, refl))
+end_complete text a = (
+  behind a.0,
+  on_ok (expected (is_end (front text)) text) a.0 (λ t. expected (is_nothing (front t)) t) (stands_complete is_end text a.0 a.1)
+      ∙ stands_complete is_nothing a.0 (behind a.0) (a.2, refl),
+)
 
 -- ---- values
 
@@ -144,8 +144,15 @@ rest_complete Document total names text r a =
 
 abbrev whole : Declared → List BlockValue → List (List Op) → List (List Op) → Rest → Tree
 whole names blocks equations inequations r = record {
-    names = names; signature = signature_of names; blocks = blocks; equations = equations; inequations = inequations;
-    questions = r.questions; values = r.values; document = r.document }
+  names = names;
+  signature = signature_of names;
+  blocks = blocks;
+  equations = equations;
+  inequations = inequations;
+  questions = r.questions;
+  values = r.values;
+  document = r.document;
+}
 
 abbrev good : Tree → Result Tree Fault
 good t = Ok t
@@ -158,11 +165,21 @@ system_found_at form bytes tree e =
     let b = bind_ok (header_at no_names (skip_from false bytes)) (λ h. section_at sections.Equations h.0 h.2 >>= λ q. after_first h q) tree e in
     let c = bind_ok (section_at sections.Equations b.0.0 b.0.2) (λ q. after_first b.0 q) tree b.2 in
     let d = bind_ok (section_at sections.Inequations b.0.0 c.0.1) (λ i. after_lists b.0 c.0 i) tree c.2 in
-    let f = bind_ok (rest_at form (length bytes) b.0.0 d.0.1) (λ r. good (whole b.0.0 b.0.1 c.0.0 d.0.0 r)) tree d.2 in
-    (b.0.0, b.0.1, c.0.0, d.0.0, f.0, b.0.2, c.0.1, d.0.1,
-    header_sound (skip_from false bytes) b.0 b.1, section_sound sections.Equations b.0.0 b.0.2 c.0 c.1,
-    section_sound sections.Inequations b.0.0 c.0.1 d.0 d.1, rest_sound form (length bytes) b.0.0 d.0.1 f.0 f.1,
-    sym (ok_is (whole b.0.0 b.0.1 c.0.0 d.0.0 f.0) tree f.2))
+    let f = bind_ok (rest_at form (length bytes) b.0.0 d.0.1) (λ r. good (whole b.0.0 b.0.1 c.0.0 d.0.0 r)) tree d.2 in (
+      b.0.0,
+      b.0.1,
+      c.0.0,
+      d.0.0,
+      f.0,
+      b.0.2,
+      c.0.1,
+      d.0.1,
+      header_sound (skip_from false bytes) b.0 b.1,
+      section_sound sections.Equations b.0.0 b.0.2 c.0 c.1,
+      section_sound sections.Inequations b.0.0 c.0.1 d.0 d.1,
+      rest_sound form (length bytes) b.0.0 d.0.1 f.0 f.1,
+      sym (ok_is (whole b.0.0 b.0.1 c.0.0 d.0.0 f.0) tree f.2),
+    )
 
 system_again_at : (form : Form) (bytes : List ℕ) (tree : Tree) → IsSystem form bytes tree → system_at form bytes ≡ Ok tree
 unfolding system_at

@@ -1,5 +1,5 @@
 -- Values: what is read is in the grammar, and what is in the grammar is read.
-use Rattle.std.proofs.Common.{◌≡◌, ◌⊎◌, ℕ, zero, suc, ◌<◌, ◌≤◌, ◌+◌, length, List, [], ◌∷◌, ◌++◌, map, ℤ, pos, Result, Ok, Bool, true, false, refl, sym, ap, subst, ◌∙◌, inl, inr, arith}
+use Rattle.std.proofs.Common.{◌≡◌, ℕ, zero, suc, ◌<◌, ◌≤◌, length, List, map, ℤ, pos, Ok, Bool, true, false, refl, sym, ap, subst, ◌∙◌, inl, inr, arith}
 use Rattle.std.proofs.lemmas.Bool.Decides.{nat_tests}
 use Rattle.std.specs.Prelude.{if◌then◌else◌, ◌==◌}
 use Rattle.std.specs.List.{list_any}
@@ -7,8 +7,7 @@ use Rattle.dz_int.specs.Numbers.{signed}
 use Rattle.dz_int.specs.Fractions.{Fraction}
 use Rattle.dz_rank.specs.declared.symbols.Symbol.{Symbol}
 use Rattle.dz_syntax.specs.declared.token.Token.{Token}
-use Rattle.dz_syntax.specs.declared.token.Token.TheVariants.{Minus, Slash, Comma, Semicolon}
-use Rattle.dz_syntax.specs.declared.fault.Fault.{Fault}
+use Rattle.dz_syntax.specs.declared.token.Token.TheVariants.{Minus, Slash}
 use Rattle.dz_syntax.specs.declared.fault.SyntaxKind.TheVariants.{Twice, Literal, Denominator}
 use Rattle.dz_syntax.specs.Tokens.{front, behind}
 use Rattle.dz_syntax.specs.Names.{Declared}
@@ -18,7 +17,7 @@ use Rattle.dz_syntax.specs.Expressions.{most_literal}
 use Rattle.dz_syntax.specs.Grammar.{IsNumber}
 use Rattle.dz_syntax.specs.Marks.{expected, is_equals, is_semicolon}
 use Rattle.dz_syntax.specs.Values.{fraction_of, numerator_from, numerator_at, positive_at, denominator_from, denominator_at, fraction_at, same_symbol, new_symbol_at, value_at, element_of}
-use Rattle.dz_syntax.specs.SystemGrammar.{Stands, IsNumerator, IsDenominator, IsValue}
+use Rattle.dz_syntax.specs.SystemGrammar.{IsNumerator, IsDenominator, IsValue}
 use Rattle.dz_syntax.proofs.Sound.{bind_ok, ok_is, literal_ok}
 use Rattle.dz_syntax.proofs.Complete.{on_ok, literal_complete, symbol_front}
 use Rattle.dz_syntax.proofs.Shorter.{behind_within, symbol_within}

@@ -1,5 +1,5 @@
 -- Reading literals and symbols.
-use Rattle.std.specs.Prelude.{ℕ, zero, suc, ◌+◌, List, [], ◌∷◌, Result, Ok, Option, Some, None, slice_set, slice_index}
+use Rattle.std.specs.Prelude.{ℕ, zero, suc, ◌+◌, List, Result, Ok, Option, Some, None, slice_set, slice_index}
 use Rattle.dz_syntax.specs.declared.token.Token.{Token}
 use Rattle.dz_syntax.specs.declared.token.Token.TheVariants.{Name, Number, OpenBracket, CloseBracket, Comma}
 use Rattle.dz_syntax.specs.declared.fault.Fault.{Fault}

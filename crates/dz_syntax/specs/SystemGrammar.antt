@@ -7,7 +7,7 @@ use Rattle.dz_rank.specs.declared.rankings.Kind.{Kind}
 use Rattle.dz_rank.specs.declared.symbols.Symbol.{Symbol}
 use Rattle.dz_rank.specs.Rankings.{BlockValue}
 use Rattle.dz_syntax.specs.declared.token.Token.{Token}
-use Rattle.dz_syntax.specs.declared.token.Token.TheVariants.{Name, Comma, Minus, Slash, Nothing}
+use Rattle.dz_syntax.specs.declared.token.Token.TheVariants.{Name, Comma, Minus, Slash}
 use Rattle.dz_syntax.specs.declared.names.Group.{Group}
 use Rattle.dz_syntax.specs.declared.names.Group.TheVariants.{Independents, Dependents}
 use Rattle.dz_syntax.specs.declared.marks.Section.{Section}
@@ -156,5 +156,12 @@ IsSystem form bytes tree =
     × IsSection sections.Equations names first equations second × IsSection sections.Inequations names second inequations third
     × IsRest form (length bytes) names third r
     × (tree ≡ record {
-        names = names; signature = signature_of names; blocks = blocks; equations = equations; inequations = inequations;
-        questions = r.questions; values = r.values; document = r.document })
+      names = names;
+      signature = signature_of names;
+      blocks = blocks;
+      equations = equations;
+      inequations = inequations;
+      questions = r.questions;
+      values = r.values;
+      document = r.document;
+    })

@@ -16,7 +16,7 @@ use Rattle.dz_syntax.specs.Faults.{◌>>=◌}
 use Rattle.dz_syntax.specs.Marks.{expected, is_ranking}
 use Rattle.dz_syntax.specs.Blocks.{independents_at, blocks}
 use Rattle.dz_syntax.specs.Sections.{section_at}
-use Rattle.dz_syntax.specs.Endings.{Rest, rest_at}
+use Rattle.dz_syntax.specs.Endings.{rest_at}
 use Rattle.dz_syntax.specs.Items.{placed}
 
 -- What a system text means. Items are lists of steps in postfix order.

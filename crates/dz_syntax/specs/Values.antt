@@ -1,5 +1,5 @@
 -- Reading values.
-use Rattle.std.specs.Prelude.{ℕ, ◌+◌, ◌==◌, ◌/◌, ◌&&◌, Bool, true, false, List, [], ◌∷◌, map, ℤ, pos, unsigned_abs, Result, Ok, if◌then◌else◌}
+use Rattle.std.specs.Prelude.{ℕ, ◌==◌, ◌/◌, ◌&&◌, Bool, true, false, List, map, ℤ, pos, unsigned_abs, Result, Ok, if◌then◌else◌}
 use Rattle.std.specs.Str.{bytes_eq}
 use Rattle.std.specs.List.{list_any}
 use Rattle.std.specs.Int.{is_negative}

@@ -117,5 +117,4 @@ pub fn read_system(alloc: Global, bytes: &[u8], form: Form) -> Result<SystemTree
 pub fn one_tree()
     ensures { (form : Form) (bytes : List ℕ) (a b : Tree)
         → IsSystem form bytes a → IsSystem form bytes b → a ≡ b }
-{
-}
+{}

@@ -1,13 +1,12 @@
-use Rattle.std.proofs.Common.{◌≡◌, ◌-◌, ◌<◌, ◌++◌, ◌∷◌, [], List, length, map, Result, Ok, arith, sym, ap, subst, ◌∙◌, ◌+◌, ℕ}
+use Rattle.std.proofs.Common.{◌≡◌, ◌-◌, ◌++◌, ◌∷◌, [], List, length, map, Ok, arith, sym, ap, subst, ◌∙◌, ◌+◌, ℕ}
 use Rattle.std.proofs.lemmas.Result.{err_from_is_err_and}
 use Rattle.std.proofs.lemmas.List.{map_push}
 use Rattle.dz_int.specs.Fractions.{Fraction}
 use Rattle.dz_rank.specs.declared.symbols.Symbol.{Symbol}
 use Rattle.dz_syntax.specs.declared.token.Token.TheVariants.{Comma}
-use Rattle.dz_syntax.specs.declared.fault.Fault.{Fault}
 use Rattle.dz_syntax.specs.Tokens.{front}
 use Rattle.dz_syntax.specs.Marks.{separated, expected, is_semicolon}
-use Rattle.dz_syntax.specs.Values.{element_of, fraction_of, value_at}
+use Rattle.dz_syntax.specs.Values.{element_of, fraction_of}
 use Rattle.dz_syntax.specs.Faults.{Gives, Fails}
 use Rattle.dz_syntax.proofs.Given.{gives_with}
 use Rattle.dz_syntax.proofs.SeparatedLists.{separated_fail, separated_more, separated_end}
