@@ -16,3 +16,6 @@ pub mod ListsGrammar
 pub mod ItemsGrammar
 pub mod ValuesGrammar
 pub mod SystemReadings
+pub mod Postfix
+pub mod SymbolsFit
+pub mod SystemExpressions

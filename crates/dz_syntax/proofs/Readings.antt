@@ -7,12 +7,15 @@ use Rattle.dz_syntax.specs.declared.fault.Fault.{Fault}
 use Rattle.dz_syntax.specs.declared.fault.SyntaxFault.{SyntaxFault}
 use Rattle.dz_syntax.specs.declared.expression.Op.{Op}
 use Rattle.dz_syntax.specs.Tokens.{front, skip_from}
-use Rattle.dz_syntax.specs.Names.{Declared}
+use Rattle.dz_syntax.specs.Names.{Declared, signature_of}
+use Rattle.dz_syntax.specs.Postfix.{IsExpression}
 use Rattle.dz_syntax.specs.Expressions.{State, poly_with, inside}
 use Rattle.dz_syntax.specs.Grammar.{binding, IsPoly, IsInside}
 use Rattle.dz_syntax.specs.Items.{placed, Answers, ended_from, start, item_at, item_of, IsItem}
 use Rattle.dz_syntax.proofs.Sound.{bind_ok, ok_is, poly_sound, inside_sound}
 use Rattle.dz_syntax.proofs.Shorter.{inside_within}
+use Rattle.dz_syntax.proofs.Postfix.{made_expression, poly_is_made}
+use Rattle.dz_syntax.proofs.SymbolsFit.{symbol_fits}
 use Rattle.dz_syntax.proofs.Complete.{then, on_ok, poly_complete, inside_complete}
 
 ended_ok : (t : Token) (s : State) (o : List Op) → front s.text ≡ t → ended_from t s ≡ Ok o → (front s.text ≡ Nothing) × (s.out ≡ o)
@@ -51,3 +54,9 @@ ok_values a b e = cc
 
 pub one_reading : (names : Declared) (bytes : List ℕ) (a b : List Op) → IsItem names bytes a → IsItem names bytes b → a ≡ b
 one_reading names bytes a b p q = ok_values a b (sym (item_again names bytes a p) ∙ item_again names bytes b q)
+
+pub item_is_expression : (names : Declared) (bytes : List ℕ) (r : Result (List Op) SyntaxFault) → Answers (λ v. v) r (item_of names bytes) → IfOk r (λ v. IsExpression (signature_of names) v)
+item_is_expression names bytes (Ok v) e =
+    let i = item_found names bytes v e in
+    made_expression (signature_of names) v (poly_is_made names (signature_of names) (symbol_fits names) (skip_from false bytes) v i.end i.poly)
+item_is_expression names bytes (Err f) e = tt

@@ -12,5 +12,6 @@ pub mod Endings
 pub mod Systems
 pub mod Grammar
 pub mod SystemGrammar
+pub mod Postfix
 pub mod Items
 pub mod Declarations

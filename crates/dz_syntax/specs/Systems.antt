@@ -1,5 +1,5 @@
 -- Reading a system from left to right.
-use Rattle.std.specs.Prelude.{ℕ, ◌+◌, List, [], length, false, Result, Ok}
+use Rattle.std.specs.Prelude.{ℕ, ◌+◌, List, [], length, false, Result, Ok, All}
 use Rattle.dz_int.specs.Fractions.{Fraction}
 use Rattle.dz_rank.specs.declared.rankings.Signature.{Signature}
 use Rattle.dz_rank.specs.declared.symbols.Symbol.{Symbol}
@@ -18,6 +18,7 @@ use Rattle.dz_syntax.specs.Blocks.{independents_at, blocks}
 use Rattle.dz_syntax.specs.Sections.{section_at}
 use Rattle.dz_syntax.specs.Endings.{rest_at}
 use Rattle.dz_syntax.specs.Items.{placed}
+use Rattle.dz_syntax.specs.Postfix.{IsExpression}
 
 -- What a system text means. Items are lists of steps in postfix order.
 pub record Tree : Type 0 where
@@ -71,3 +72,9 @@ system_at form bytes = do
 -- the tree of a text in a form, or the first fault
 unfoldable pub system_of : Form → List ℕ → Result Tree SyntaxFault
 system_of form bytes = placed (length bytes) (system_at form bytes)
+
+-- every item of a tree is one expression over its signature
+pub record HasExpressions (t : Tree) : Type 0 where
+  pub equations : All (λ item. IsExpression t.signature item) t.equations
+  pub inequations : All (λ item. IsExpression t.signature item) t.inequations
+  pub questions : All (λ item. IsExpression t.signature item) t.questions

@@ -1,7 +1,8 @@
 //! Items, and one expression that fills a text.
 
 ghost use Rattle.std.specs.Prelude.{◌≡◌, ℕ, List, IfOk, Ok};
-ghost use Rattle.dz_syntax.specs.Names.{Declared};
+ghost use Rattle.dz_syntax.specs.Names.{Declared, signature_of};
+ghost use Rattle.dz_syntax.specs.Postfix.{IsExpression};
 ghost use Rattle.dz_syntax.specs.declared.expression.Op.{Op};
 ghost use Rattle.dz_syntax.specs.Faults.{Gives};
 ghost use Rattle.dz_syntax.specs.Items.{Answers, IsItem, item_at, item_of};
@@ -88,6 +89,8 @@ pub fn read_item(alloc: Global, names: &Names, bytes: &[u8]) -> Result<Item, Syn
         → Answers (λ item. item) result (Ok steps) }
     // Which fault it is.
     ensures exact { Answers (λ item. item) result (item_of names.now bytes.now) }
+    // What is read is one expression over the declared names.
+    ensures expression { IfOk result (λ item. IsExpression (signature_of names.now) item) }
 {
     placed_item(alloc, names, bytes)
 }

@@ -5,7 +5,7 @@ ghost use Rattle.dz_rank.specs.Rankings.{block_values};
 ghost use Rattle.dz_syntax.specs.Faults.{Gives};
 ghost use Rattle.dz_syntax.specs.Names.{no_names};
 ghost use Rattle.dz_syntax.specs.Items.{Answers};
-ghost use Rattle.dz_syntax.specs.Systems.{Tree, header_at, system_at, system_of, tree_of};
+ghost use Rattle.dz_syntax.specs.Systems.{HasExpressions, Tree, header_at, system_at, system_of, tree_of};
 ghost use Rattle.dz_syntax.specs.SystemGrammar.{IsSystem};
 ghost use Rattle.dz_syntax.specs.declared.endings.Form.{Form};
 
@@ -108,6 +108,8 @@ pub fn read_system(alloc: Global, bytes: &[u8], form: Form) -> Result<SystemTree
         → Answers (λ t. tree_of t) result (Ok tree) }
     // Which fault it is.
     ensures exact { Answers (λ t. tree_of t) result (system_of form bytes.now) }
+    // What is read has items that are expressions over the declared names.
+    ensures expressions { IfOk result (λ t. HasExpressions (tree_of t)) }
 {
     placed_system(alloc, bytes, form)
 }
