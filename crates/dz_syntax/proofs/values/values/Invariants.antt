@@ -1,0 +1,14 @@
+use Rattle.std.proofs.Common.{◌≡◌, ◌<◌, ◌+◌, ℕ, length, map}
+use Rattle.dz_syntax.specs.Marks.{separated}
+use Rattle.dz_syntax.specs.Values.{element_of}
+use Rattle.dz_syntax.proofs.values.values.Given as goal
+
+-- some count that suffices for the rest gives the same, and the set holds the symbols that were found
+abbrev pub invariant-elements : goal.invariant-elements
+invariant-elements l =
+    (n : ℕ) × (length l.rest < n)
+    × (separated (element_of l.names) n l.into.items l.rest ≡ separated (element_of l.names) (length l.fn.text + 1) l.fn.into.items l.fn.text)
+    × (l.valued.keys ≡ map (λ v. v.0) l.into.items)
+
+abbrev pub decreases-elements : goal.decreases-elements
+decreases-elements l = length l.rest

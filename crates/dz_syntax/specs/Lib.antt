@@ -1,0 +1,17 @@
+pub mod Tokens
+pub mod Faults
+pub mod Expressions
+pub mod Names
+pub mod Numbers
+pub mod Atoms
+pub mod Marks
+pub mod Blocks
+pub mod Sections
+pub mod Values
+pub mod Endings
+pub mod Systems
+pub mod Grammar
+pub mod SystemGrammar
+pub mod Postfix
+pub mod Items
+pub mod Declarations
