@@ -1,6 +1,5 @@
 -- Cells mean what the amounts of an operation do, as far as they fit.
-use Rattle.std.proofs.Common.{◌≡◌, ◌≤◌, ◌+◌, ◌++◌, Bool, true, false, cond, leb, List, [], ◌∷◌, map, length, ℤ, ◌&&◌, Option, Some, None, refl, sym, ap, ap₂, ◌∙◌, arith}
-use Rattle.std.specs.Prelude.{Result, Ok, Err}
+use Rattle.std.proofs.Common.{◌≡◌, ◌+◌, ◌++◌, Bool, true, false, cond, leb, List, [], ◌∷◌, length, ◌&&◌, Option, Some, None, refl, sym, ap, ◌∙◌, arith}
 use Rattle.std.proofs.lemmas.Bool.Decides.{nat_tests}
 use Rattle.std.proofs.lemmas.List.{length-map}
 use Rattle.std.specs.declared.cmp.Ordering.{Ordering}
@@ -10,7 +9,7 @@ use Rattle.dz_algebra.specs.Monomial.{Monomial, monomial_cmp}
 use Rattle.dz_algebra.specs.Polynomial.{Polynomial, Contributions, IsPolynomial, keep, collect}
 use Rattle.dz_algebra.specs.Gather.{onto, gather, merge}
 use Rattle.dz_algebra.specs.Amount.{Amount, amounts, add_amounts, greatest, gathered, nonzero, amounts_fit}
-use Rattle.dz_algebra.specs.Size.{Refusal, wide, large, refused, unless}
+use Rattle.dz_algebra.specs.Size.{refused, unless}
 use Rattle.dz_algebra.proofs.Gathers.{gather-map, merge_puts}
 use Rattle.dz_algebra.proofs.Operations.{monomial_order, nonzero_gathered, falling_amounts, gathered_polynomial, falling_gathered, onto-append, amounts-append}
 use Rattle.dz_poly.specs.Cells.{capped, add_capped, caps, keep_fitting, finished, concluded}

@@ -1,5 +1,5 @@
 -- Books that only grow.
-use Rattle.std.proofs.Common.{◌≡◌, ◌<◌, ℕ, zero, suc, List, [], ◌∷◌, ◌++◌, length, take, arith, refl}
+use Rattle.std.proofs.Common.{◌≡◌, ◌<◌, ◌≤◌, ◌∙◌, sym, ap, ℕ, zero, suc, List, [], ◌∷◌, ◌++◌, length, take, arith, refl}
 use Rattle.std.specs.Prelude.{slice_get, Some, map}
 use Rattle.std.proofs.lemmas.List.{length-append, take_at}
 use Rattle.dz_algebra.specs.Polynomial.{Polynomial}
@@ -8,7 +8,7 @@ use Rattle.dz_rank.specs.Rankings.{RankingValue}
 use Rattle.std.specs.Prelude.{All}
 use Rattle.std.proofs.lemmas.List.Elements.{All-map, All-weaker}
 use Rattle.dz_poly.specs.declared.entry.Entry.{Entry}
-use Rattle.dz_poly.specs.Books.{IsKept, IsBook, IsKeepable}
+use Rattle.dz_poly.specs.Books.{BookValue, IsKept, IsBook, IsKeepable}
 use Rattle.dz_poly.specs.Entries.{IsEntry}
 
 slice_get-append : {X : Type 0} (xs ys : List X) (p : ℕ) → p < length xs → slice_get (xs ++ ys) p ≡ slice_get xs p
@@ -28,3 +28,22 @@ last_get f (y ∷ xs) x = last_get f xs x
 -- entries make a book
 pub book_of : (r : RankingValue) (es : List Entry) → All (λ e. IsEntry r e.terms.items e.degrees.items) es → IsBook (record { ranking = r; polynomials = map (λ e. e.terms.items) es })
 book_of r es h = record { each = All-map (IsKeepable r) (λ e. e.terms.items) es (All-weaker (λ e. IsEntry r e.terms.items e.degrees.items) (λ e. IsKeepable r e.terms.items) (λ e g. g.keepable) es h) }
+
+-- what two calls in a row keep
+pub kept_trans : (a b c : BookValue) → IsKept a b → IsKept b c → IsKept a c
+kept_trans a b c h g = record {
+  ranking = g.ranking ∙ h.ranking;
+  each = λ p l. g.each p (let m = h.later in omega arith) ∙ h.each p l;
+  later = let m = h.later in let n = g.later in omega arith;
+  front = sym (shorter (length a.polynomials) (length b.polynomials) c.polynomials h.later) ∙ ap (take (length a.polynomials)) g.front ∙ h.front;
+}
+  where
+    shorter : {X : Type 0} (m n : ℕ) (xs : List X) → m ≤ n → take m (take n xs) ≡ take m xs
+    shorter zero n xs l = refl
+    shorter (suc m) zero xs l = absurd (omega arith)
+    shorter (suc m) (suc n) [] l = refl
+    shorter (suc m) (suc n) (x ∷ xs) l = ap (λ ys. x ∷ ys) (shorter m n xs (omega arith))
+
+-- a polynomial that lives goes on living
+pub lives_on : (a b : BookValue) (p : ℕ) → IsKept a b → p < length a.polynomials → p < length b.polynomials
+lives_on a b p h l = let m = h.later in omega arith

@@ -1,18 +1,15 @@
 -- Division of the coefficients of polynomials that stand in a book.
-use Rattle.std.proofs.Common.{◌≡◌, ◌≢◌, ◌<◌, ◌≤◌, ◌+◌, ◌/◌, ◌∙◌, ◌++◌, ℕ, zero, suc, Bool, true, false, cond, max, List, [], ◌∷◌, map, length, take, get_or, ℤ, pos, negsuc, neg_ℤ, ◌*ℤ◌, int_div, int_lt, unsigned_abs, refl, sym, ap, ap₂, subst, arith, add-one}
-use Rattle.std.specs.Prelude.{All, Option, Some, None}
+use Rattle.std.proofs.Common.{◌≡◌, ◌≢◌, ◌<◌, ◌≤◌, ◌+◌, ◌/◌, ◌∙◌, ◌++◌, ℕ, zero, suc, max, List, [], ◌∷◌, map, length, take, get_or, ℤ, pos, negsuc, neg_ℤ, int_div, unsigned_abs, refl, sym, ap, ap₂, subst, arith, add-one}
+use Rattle.std.specs.Prelude.{All}
 use Rattle.std.specs.Int.{◌∣◌}
 use Rattle.std.proofs.Math.Nat.{div-le_self, div-one}
-use Rattle.std.proofs.lemmas.Int.{ints}
-use Rattle.std.proofs.lemmas.List.{take_all}
 use Rattle.std.proofs.lemmas.List.Elements.{All-nil, All-cons, All-head, All-tail}
-use Rattle.std.proofs.lemmas.Nat.Gcd.{dvd_antisymm, dvd_trans, dvd-zero, le_of_dvd}
+use Rattle.std.proofs.lemmas.Nat.Gcd.{dvd_antisymm, dvd-zero, le_of_dvd}
 use Rattle.std.specs.declared.cmp.Ordering.{Ordering}
 use Rattle.dz_algebra.specs.Amount.{greatest}
 use Rattle.dz_algebra.specs.Gather.{onto}
 use Rattle.dz_algebra.specs.Monomial.{Monomial}
-use Rattle.dz_algebra.specs.Norm.{gcd, content, signed_content, divided, norm}
-use Rattle.dz_algebra.specs.Order.{IsOrder}
+use Rattle.dz_algebra.specs.Norm.{content, signed_content, divided, norm}
 use Rattle.dz_algebra.specs.Polynomial.{Polynomial, IsPolynomial, PolynomialIn, scaled}
 use Rattle.dz_algebra.specs.Size.{limit_of}
 use Rattle.dz_algebra.proofs.Divisors.{gcd_is}
@@ -22,12 +19,11 @@ use Rattle.dz_int.specs.Numbers.{IsContent}
 use Rattle.dz_rank.specs.declared.symbols.Symbol.{Symbol}
 use Rattle.dz_rank.specs.Rankings.{RankingValue, ranking_cmp}
 use Rattle.dz_rank.specs.Symbols.{BelongsTo}
-use Rattle.dz_poly.specs.Books.{IsKeepable, BookValue, IsKept}
+use Rattle.dz_poly.specs.Books.{IsKeepable}
 use Rattle.dz_poly.specs.Degrees.{degrees}
 use Rattle.dz_poly.specs.Divisions.{DividesAll}
 use Rattle.dz_poly.specs.Entries.{IsEntry}
 use Rattle.dz_poly.specs.Ranked.{symbols_under}
-use Rattle.dz_poly.proofs.SymbolLaws.{ranking_order}
 
 -- ---- the content, by what it divides and what divides it
 divides_coefficients : {M : Type 0} (d : ℕ) (p : List (M × ℤ)) → Divides d p → All (λ c. d ∣ unsigned_abs c) (map (λ t. t.1) p)

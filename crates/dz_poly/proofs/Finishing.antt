@@ -1,5 +1,5 @@
 -- The polynomial that cells make.
-use Rattle.std.proofs.Common.{◌≡◌, ◌≤◌, ◌∙◌, ℕ, max, Bool, true, false, cond, List, [], ◌∷◌, length, refl, sym, ap, ap₂, arith}
+use Rattle.std.proofs.Common.{◌≡◌, ◌≤◌, ◌∙◌, ℕ, max, Bool, true, false, cond, List, [], ◌∷◌, length, refl, ap, ap₂, arith}
 use Rattle.std.specs.Prelude.{Option, Some, None}
 use Rattle.std.specs.declared.cmp.Ordering.{Ordering}
 use Rattle.dz_algebra.specs.declared.Limit.TheVariants.{Order, Exponent}

@@ -1,13 +1,11 @@
 -- Passes over one or two monomials.
-use Rattle.std.proofs.Common.{◌≡◌, ◌<◌, ◌≤◌, ◌+◌, ◌∙◌, ◌||◌, ℕ, Bool, true, false, List, [], ◌∷◌, ◌++◌, nat_lt, refl, sym, ap, ap₂, arith, length}
+use Rattle.std.proofs.Common.{◌≡◌, ◌<◌, ◌+◌, ◌∙◌, ◌||◌, ℕ, Bool, true, false, [], ◌∷◌, ◌++◌, nat_lt, refl, sym, ap, ap₂, arith, length}
 use Rattle.std.proofs.lemmas.Bool.Decides.{nat_tests}
 use Rattle.std.specs.declared.cmp.Ordering.{Ordering}
 use Rattle.std.specs.declared.cmp.Ordering.TheVariants.{Less, Equal, Greater}
 use Rattle.std.specs.Ordering.{match_ordering}
-use Rattle.std.specs.List.{list_any}
 use Rattle.dz_algebra.specs.Gather.{merge}
 use Rattle.dz_algebra.specs.Monomial.{Monomial, IsMonomial, exponent}
-use Rattle.dz_algebra.specs.Order.{IsOrder}
 use Rattle.dz_algebra.proofs.Monomials.{exponent_below, above_more}
 use Rattle.dz_poly.specs.Degrees.{has_high_exponent}
 use Rattle.dz_poly.proofs.SymbolLaws.{ranking_order}

@@ -1,23 +1,20 @@
 -- Least common multiples of monomials decide the limits that the monomials pass.
-use Rattle.std.proofs.Common.{◌≡◌, ◌<◌, ◌≤◌, ◌+◌, ◌∙◌, ◌||◌, ℕ, max, Bool, true, false, cond, List, [], ◌∷◌, ◌++◌, map, length, nat_lt, refl, sym, ap, ap₂, arith, subst, ltb, ltb-true, ltb-false, ◌⊎◌, inl, inr}
+use Rattle.std.proofs.Common.{◌≡◌, ◌<◌, ◌+◌, ◌∙◌, ◌||◌, ℕ, max, Bool, true, false, cond, List, [], ◌∷◌, map, length, nat_lt, refl, sym, ap, ap₂, arith}
 use Rattle.std.proofs.lemmas.Bool.Decides.{nat_tests}
 use Rattle.std.proofs.lemmas.List.{length-map}
-use Rattle.std.specs.Prelude.{Option, Some, None}
+use Rattle.std.specs.Prelude.{Option, Some}
 use Rattle.dz_algebra.specs.declared.Limit.{Limit}
 use Rattle.dz_algebra.specs.declared.Limit.TheVariants.{Order, Exponent}
 use Rattle.std.specs.declared.cmp.Ordering.{Ordering}
 use Rattle.std.specs.declared.cmp.Ordering.TheVariants.{Less, Equal, Greater}
 use Rattle.std.specs.Ordering.{match_ordering}
-use Rattle.std.specs.Cmp.{tied_itself}
-use Rattle.std.specs.List.{list_any}
-use Rattle.dz_algebra.specs.Gather.{put, onto, merge}
-use Rattle.dz_algebra.specs.Order.{IsOrder, IsAbove, IsFalling}
-use Rattle.dz_algebra.specs.Monomial.{Monomial, IsMonomial, monomial_cmp, exponent}
-use Rattle.dz_algebra.specs.Polynomial.{Contributions, AreMonomials}
+use Rattle.dz_algebra.specs.Gather.{put, onto}
+use Rattle.dz_algebra.specs.Order.{IsOrder, IsAbove}
+use Rattle.dz_algebra.specs.Monomial.{Monomial, IsMonomial, exponent}
 use Rattle.dz_algebra.specs.Symbols.{Symbols}
 use Rattle.dz_algebra.specs.Size as size
-use Rattle.dz_algebra.proofs.Gathers.{any_onto, merge_puts, falling_onto}
-use Rattle.dz_algebra.proofs.Monomials.{exponent_below, above_more, same_exponents}
+use Rattle.dz_algebra.proofs.Gathers.{any_onto}
+use Rattle.dz_algebra.proofs.Monomials.{exponent_below, above_more}
 use Rattle.dz_algebra.proofs.Orders.{greater_reversed}
 use Rattle.dz_poly.specs.Degrees.{degrees, has_high_order, has_high_exponent, limit_of_counts, limit_by}
 

@@ -6,7 +6,6 @@ use Rattle.std.proofs.lemmas.List.Elements.{All-nil}
 use Rattle.std.specs.declared.cmp.Ordering.{Ordering}
 use Rattle.std.specs.declared.cmp.Ordering.TheVariants.{Less, Equal, Greater}
 use Rattle.std.specs.Ordering.{match_ordering}
-use Rattle.std.specs.List.{list_any}
 use Rattle.dz_algebra.specs.declared.Limit.{Limit}
 use Rattle.dz_algebra.specs.declared.Limit.TheVariants as limits
 use Rattle.dz_algebra.specs.Gather.{put, onto, merge}

@@ -1,8 +1,8 @@
 -- Polynomials of one term may stand in a book.
-use Rattle.std.proofs.Common.{◌≡◌, ◌≢◌, ◌≤◌, ◌<◌, ◌∙◌, ◌++◌, ℕ, zero, suc, Bool, true, false, cond, List, [], ◌∷◌, nat_lt, ℤ, pos, negsuc, unsigned_abs, refl, sym, ap, ap₂, subst, arith}
+use Rattle.std.proofs.Common.{◌≡◌, ◌≢◌, ◌≤◌, ◌<◌, ◌∙◌, ℕ, zero, suc, false, cond, [], ◌∷◌, nat_lt, ℤ, pos, negsuc, unsigned_abs, refl, sym, ap, ap₂, subst, arith}
 use Rattle.std.proofs.lemmas.Bool.Decides.{nat_tests}
 use Rattle.std.proofs.lemmas.List.Elements.{All-nil, All-cons}
-use Rattle.std.specs.Prelude.{Option, Some, None, All, ◌||◌}
+use Rattle.std.specs.Prelude.{Some, None, All, ◌||◌}
 use Rattle.dz_algebra.specs.declared.Limit.TheVariants as limits
 use Rattle.dz_algebra.specs.Amount.{greatest}
 use Rattle.dz_algebra.specs.Monomial.{Monomial}

@@ -1,15 +1,15 @@
 -- Coefficients of powers of a symbol may stand in a book.
-use Rattle.std.proofs.Common.{◌≡◌, ◌≢◌, ◌<◌, ◌≤◌, ◌+◌, ◌∙◌, ◌++◌, ◌==◌, ℕ, zero, suc, max, Bool, true, false, cond, List, [], ◌∷◌, map, length, take, get_or, ℤ, unsigned_abs, refl, sym, ap, ap₂, subst, arith, add-one}
+use Rattle.std.proofs.Common.{◌≡◌, ◌<◌, ◌≤◌, ◌+◌, ◌∙◌, ◌++◌, ◌==◌, ℕ, zero, suc, max, true, false, cond, List, [], ◌∷◌, length, take, get_or, ℤ, unsigned_abs, refl, sym, ap, subst, arith, add-one}
 use Rattle.std.specs.Prelude.{All}
 use Rattle.std.proofs.lemmas.List.Elements.{All-nil, All-cons, All-head, All-tail}
 use Rattle.std.specs.declared.cmp.Ordering.{Ordering}
 use Rattle.std.specs.declared.cmp.Ordering.TheVariants.{Less, Equal, Greater}
 use Rattle.std.specs.Ordering.{match_ordering}
 use Rattle.dz_algebra.specs.Amount.{greatest}
-use Rattle.dz_algebra.specs.Monomial.{Monomial, IsMonomial, MonomialIn, exponent, without}
+use Rattle.dz_algebra.specs.Monomial.{Monomial, MonomialIn, exponent, without}
 use Rattle.dz_algebra.specs.Order.{IsOrder}
 use Rattle.dz_algebra.specs.Parts.{coefficient_of}
-use Rattle.dz_algebra.specs.Polynomial.{Polynomial, IsPolynomial, PolynomialIn}
+use Rattle.dz_algebra.specs.Polynomial.{Polynomial, PolynomialIn}
 use Rattle.dz_algebra.proofs.Canonical.{are_monomials}
 use Rattle.dz_algebra.proofs.Coefficients.{coefficient_of_is, exponent_left, exponent_other}
 use Rattle.dz_rank.specs.declared.symbols.Symbol.{Symbol}

@@ -1,6 +1,6 @@
 -- What entries of a book tell.
-use Rattle.std.proofs.Common.{◌≡◌, ◌≢◌, ◌<◌, ◌≤◌, ◌+◌, ◌∙◌, ℕ, zero, suc, List, [], ◌∷◌, length, map, take, get_or, ℤ, pos, refl, sym, ap, ap₂, subst, arith}
-use Rattle.std.specs.Prelude.{Option, Some, None, slice_get, slice_index_or}
+use Rattle.std.proofs.Common.{◌≡◌, ◌≢◌, ◌<◌, ◌≤◌, ◌∙◌, ℕ, zero, suc, List, [], ◌∷◌, length, map, take, get_or, ℤ, refl, sym, ap, ap₂, subst, arith}
+use Rattle.std.specs.Prelude.{Some, slice_get}
 use Rattle.std.proofs.lemmas.List.{length-map, take_all}
 use Rattle.dz_algebra.specs.Monomial.{Monomial, IsMonomial, exponent, monomial_cmp}
 use Rattle.dz_algebra.specs.Parts.{degree}
@@ -11,8 +11,7 @@ use Rattle.dz_algebra.proofs.Canonical.{are_monomials}
 use Rattle.dz_algebra.proofs.Orders.{same_monomial, monomial_cmp_total}
 use Rattle.dz_rank.specs.declared.symbols.Symbol.{Symbol}
 use Rattle.dz_rank.specs.Rankings.{RankingValue, ranking_cmp}
-use Rattle.dz_poly.specs.Books.{symbols_of, term_at}
-use Rattle.dz_poly.specs.Degrees.{degrees}
+use Rattle.dz_poly.specs.Books.{symbols_of}
 use Rattle.dz_poly.specs.Entries.{IsEntry}
 use Rattle.dz_poly.proofs.Multiples.{keys_degrees}
 use Rattle.dz_poly.proofs.Support.{degrees_monomial, exponent_of_degrees}

@@ -1,17 +1,14 @@
 -- Sums and differences of polynomials that stand in a book.
-use Rattle.std.proofs.Common.{◌≡◌, ◌∙◌, ◌||◌, ◌++◌, ℕ, max, Bool, true, false, cond, List, [], ◌∷◌, map, length, ℤ, neg_ℤ, nat_lt, refl, sym, ap, ap₂, subst}
+use Rattle.std.proofs.Common.{◌≡◌, ◌∙◌, ◌||◌, ◌++◌, ℕ, max, Bool, true, false, cond, List, [], ◌∷◌, length, ℤ, neg_ℤ, nat_lt, refl, sym, ap, ap₂, subst}
 use Rattle.std.specs.Prelude.{Option, Some, None, Result, Ok, Err, IfOk}
-use Rattle.std.specs.List.{list_any}
 use Rattle.std.specs.declared.cmp.Ordering.{Ordering}
-use Rattle.dz_algebra.specs.declared.Limit.{Limit}
 use Rattle.dz_algebra.specs.declared.Limit.TheVariants as limits
 use Rattle.dz_algebra.specs.Gather.{merge, onto}
 use Rattle.dz_algebra.specs.Order.{IsOrder}
-use Rattle.dz_algebra.specs.Monomial.{Monomial, IsMonomial, MonomialIn, monomial_cmp}
+use Rattle.dz_algebra.specs.Monomial.{Monomial, monomial_cmp}
 use Rattle.dz_algebra.specs.Polynomial.{Polynomial, Contributions, IsPolynomial, AreMonomials, PolynomialIn, negated}
 use Rattle.dz_algebra.specs.Amount.{Amount, amounts, gathered}
-use Rattle.dz_algebra.specs.Symbols.{Symbols}
-use Rattle.dz_algebra.specs.Size.{operation, limit_of}
+use Rattle.dz_algebra.specs.Size.{operation}
 use Rattle.dz_algebra.proofs.Canonical.{are_monomials, monomials-append}
 use Rattle.dz_algebra.proofs.Gathers.{any_onto}
 use Rattle.dz_algebra.proofs.PolynomialRing.{negated_is}
@@ -23,8 +20,8 @@ use Rattle.dz_poly.specs.Cells.{add_capped, caps, finished, concluded}
 use Rattle.dz_poly.specs.Degrees.{degrees, has_high_order, has_high_exponent, limit_of_counts, limit_by}
 use Rattle.dz_poly.specs.Entries.{IsEntry}
 use Rattle.dz_poly.specs.Ranked.{symbols_under}
-use Rattle.dz_poly.specs.Signs.{signed, with_sign}
-use Rattle.dz_poly.specs.Supports.{IsSupport, IsSupportOf}
+use Rattle.dz_poly.specs.Signs.{with_sign}
+use Rattle.dz_poly.specs.Supports.{IsSupportOf}
 use Rattle.dz_poly.specs.declared.sums.Sign.{Sign}
 use Rattle.dz_poly.specs.declared.sums.Sign.TheVariants.{Plus, Minus}
 use Rattle.dz_poly.proofs.Amounts.{merged_sum, length-caps}

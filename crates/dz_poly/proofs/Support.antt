@@ -1,20 +1,19 @@
 -- The degrees of what is added up, and of what cancels.
-use Rattle.std.proofs.Common.{◌≡◌, ◌≢◌, ◌<◌, ◌≤◌, ◌+◌, ◌∙◌, ◌||◌, ℕ, max, Bool, true, false, cond, List, [], ◌∷◌, ◌++◌, map, length, nat_lt, ℤ, refl, sym, ap, ap₂, arith, subst}
-use Rattle.std.specs.Prelude.{Option, Some, None}
+use Rattle.std.proofs.Common.{◌≡◌, ◌≢◌, ◌+◌, ◌∙◌, ℕ, max, List, [], ◌∷◌, ◌++◌, length, ℤ, refl, sym, ap, ap₂, arith}
 use Rattle.std.specs.declared.cmp.Ordering.{Ordering}
 use Rattle.std.specs.declared.cmp.Ordering.TheVariants.{Less, Equal, Greater}
 use Rattle.std.specs.Ordering.{match_ordering}
 use Rattle.dz_algebra.specs.Gather.{put, onto, merge}
-use Rattle.dz_algebra.specs.Order.{IsOrder, IsAbove, IsFalling}
+use Rattle.dz_algebra.specs.Order.{IsOrder, IsFalling}
 use Rattle.dz_algebra.specs.Monomial.{Monomial, IsMonomial, monomial_cmp, monomial_product, exponent}
-use Rattle.dz_algebra.specs.Polynomial.{Polynomial, Contributions, AreMonomials, IsPolynomial, term_times, pairs, negated}
+use Rattle.dz_algebra.specs.Polynomial.{Polynomial, Contributions, AreMonomials, term_times, pairs}
 use Rattle.dz_algebra.specs.Parts.{degree}
-use Rattle.dz_algebra.specs.Amount.{Amount, amount, amounts, add_amounts, gathered}
+use Rattle.dz_algebra.specs.Amount.{Amount, amount, add_amounts, gathered}
 use Rattle.dz_algebra.specs.Symbols.{Symbols}
 use Rattle.dz_algebra.specs.Size.{support, limit_of}
 use Rattle.dz_algebra.proofs.Gathers.{merge_puts}
 use Rattle.dz_algebra.proofs.Monomials.{same_exponents, product_is, exponent_product}
-use Rattle.dz_algebra.proofs.Canonical.{are_monomials, monomials-append}
+use Rattle.dz_algebra.proofs.Canonical.{monomials-append}
 use Rattle.dz_algebra.proofs.Products.{monomials_pairs}
 use Rattle.dz_algebra.proofs.Orders.{same_monomial}
 use Rattle.dz_poly.specs.Degrees.{degrees, limit_by}

@@ -1,8 +1,7 @@
 -- The symbols of a ranking are ordered totally, and their rates commute.
 use Rattle.std.proofs.Common.{◌≡◌, ◌==◌, ℕ, zero, suc, Bool, true, false, cond, List, [], ◌∷◌, refl, ap}
 use Rattle.dz_algebra.specs.Order.{IsOrder}
-use Rattle.dz_algebra.specs.Derivation.{Rate, constant, unit, symbol, rate_again, RatesCommute}
-use Rattle.dz_rank.specs.declared.symbols.Symbol.{Symbol}
+use Rattle.dz_algebra.specs.Derivation.{constant, unit, symbol, rate_again, RatesCommute}
 use Rattle.dz_rank.specs.declared.symbols.Symbol.TheVariants.{Independent, Derivative}
 use Rattle.dz_rank.specs.Rankings.{RankingValue, ranking_cmp}
 use Rattle.dz_rank.specs.Symbols.{raised}

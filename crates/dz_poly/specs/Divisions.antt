@@ -1,5 +1,5 @@
 -- Numbers that divide every coefficient.
-use Rattle.std.specs.Prelude.{ℕ, All, ℤ, unsigned_abs}
+use Rattle.std.specs.Prelude.{ℕ, All, unsigned_abs}
 use Rattle.std.specs.Int.{◌∣◌}
 use Rattle.dz_algebra.specs.Polynomial.{Polynomial}
 

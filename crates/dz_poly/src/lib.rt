@@ -22,6 +22,8 @@ mod products;
 mod reading;
 mod sums;
 mod term;
+#[cfg(test)]
+mod tests;
 
 pub use arithmetic::{add, mul, mul_term, sub};
 pub use book::{Book, BookMark, Poly};
