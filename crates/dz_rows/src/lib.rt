@@ -4,6 +4,8 @@
 #[cfg(test)]
 mod first_form;
 #[cfg(test)]
+mod laws;
+#[cfg(test)]
 mod outside;
 #[cfg(test)]
 mod run;
