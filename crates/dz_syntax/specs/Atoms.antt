@@ -19,6 +19,7 @@ abbrev pub number_or : SyntaxKind → List ℕ → Option ℕ → Result (ℕ ×
 number_or kind text None = refuse kind text
 number_or kind text (Some n) = Ok (n, behind text)
 
+-- a number where the token at the front is one
 abbrev pub literal_from : ℕ → SyntaxKind → Token → List ℕ → Result (ℕ × List ℕ) Fault
 literal_from most kind Number text = number_or kind text (at_most most (number_from 0 (bytes_of text)))
 literal_from most kind t text = refuse (unexpected_kind t) text
@@ -27,10 +28,12 @@ literal_from most kind t text = refuse (unexpected_kind t) text
 unfoldable pub literal_at : ℕ → SyntaxKind → List ℕ → Result (ℕ × List ℕ) Fault
 literal_at most kind text = literal_from most kind (front text) text
 
+-- what a name stands for, if that is an independent
 abbrev pub as_independent : List ℕ → Option Symbol → Result ℕ Fault
 as_independent text (Some (Independent i)) = Ok i
 as_independent text s = refuse Unknown text
 
+-- the independent, where the token at the front is a name
 abbrev pub independent_from : Declared → Token → List ℕ → Result ℕ Fault
 independent_from names Name text = as_independent text (find names (bytes_of text))
 independent_from names t text = refuse (unexpected_kind t) text
@@ -66,10 +69,12 @@ symbol_of names text (Derivative d o) OpenBracket = do
   Ok (Derivative d o.0, o.1)
 symbol_of names text s t = Ok (s, behind text)
 
+-- the symbol of what a name stands for, if it stands for something
 abbrev pub symbol_if : Declared → List ℕ → Option Symbol → Result (Symbol × List ℕ) Fault
 symbol_if names text None = refuse Unknown text
 symbol_if names text (Some s) = symbol_of names text s (front (behind text))
 
+-- the symbol, where the token at the front is a name
 abbrev pub symbol_from : Declared → Token → List ℕ → Result (Symbol × List ℕ) Fault
 symbol_from names Name text = symbol_if names text (find names (bytes_of text))
 symbol_from names t text = refuse (unexpected_kind t) text

@@ -9,6 +9,7 @@ use Rattle.dz_syntax.specs.Tokens.{front, behind, bytes_of}
 use Rattle.dz_syntax.specs.Names.{Declared, declared, known}
 use Rattle.dz_syntax.specs.Faults.{◌>>=◌, refuse, unexpected_kind}
 
+-- a new name, where the token at the front is a name
 abbrev pub new_name_from : Declared → Token → List ℕ → Result (List ℕ) Fault
 new_name_from names Name text = if known names (bytes_of text) then refuse Twice text else Ok (bytes_of text)
 new_name_from names t text = refuse (unexpected_kind t) text

@@ -16,6 +16,7 @@ pub record State : Type 0 where
   pub out : List Op
   pub text : List ℕ
 
+-- A reader goes on from a state, or stops at the first fault.
 abbrev pub Reader : Type 0
 Reader = State → Result State Fault
 
@@ -27,6 +28,7 @@ past s = record { out = s.out; text = behind s.text }
 abbrev pub put : Op → State → State
 put op s = record { out = s.out ++ op ∷ []; text = s.text }
 
+-- a token that may not stand here
 abbrev pub unexpected : {A : Type 0} → Token → State → Result A Fault
 unexpected t s = refuse (unexpected_kind t) s.text
 
@@ -38,16 +40,19 @@ most_literal = 2 ^ 127 - 1
 abbrev pub most_exponent : ℕ
 most_exponent = 65535
 
+-- a coefficient
 unfoldable pub number_op : Reader
 number_op s = do
   n ← literal_at most_literal Literal s.text
   Ok (record { out = s.out ++ ops.Number (pos n.0) ∷ []; text = n.1 })
 
+-- a symbol
 unfoldable pub symbol_op : Declared → Reader
 symbol_op names s = do
   v ← symbol_at names s.text
   Ok (record { out = s.out ++ ops.Symbol v.0 ∷ []; text = v.1 })
 
+-- an exponent
 unfoldable pub exponent_at : Reader
 exponent_at s = do
   k ← literal_at most_exponent Exponent s.text
@@ -60,13 +65,16 @@ atom_from names inner Name s = symbol_op names s
 atom_from names inner OpenParenthesis s = inner s
 atom_from names inner t s = unexpected t s
 
+-- an atom
 unfoldable pub atom_with : Declared → Reader → Reader
 atom_with names inner s = atom_from names inner (front s.text) s
 
+-- behind an atom: its exponent, if a ^ stands here
 abbrev pub power_from : Token → Reader
 power_from Caret s = exponent_at (past s)
 power_from t s = Ok s
 
+-- atom ["^" number]
 unfoldable pub power_with : Declared → Reader → Reader
 power_with names inner s = do
   s ← atom_with names inner s
@@ -84,6 +92,7 @@ unfoldable pub factors : Declared → Reader → ℕ → Reader
 factors names inner zero s = Ok s
 factors names inner (suc n) s = factors_from names (λ s. factors names inner n s) inner (front s.text) s
 
+-- power {"*" power}
 unfoldable pub product_with : Declared → Reader → Reader
 product_with names inner s = do
   s ← power_with names inner s
@@ -99,6 +108,7 @@ sums_from names more inner Minus s = do
   more (put ops.Sub s)
 sums_from names more inner t s = Ok s
 
+-- There are at most as many as the text has bytes.
 unfoldable pub sums : Declared → Reader → ℕ → Reader
 sums names inner zero s = Ok s
 sums names inner (suc n) s = sums_from names (λ s. sums names inner n s) inner (front s.text) s
@@ -111,11 +121,13 @@ first_from names inner Minus s = do
 first_from names inner Plus s = product_with names inner (past s)
 first_from names inner t s = product_with names inner s
 
+-- ["+" | "-"] product {("+" | "-") product}
 unfoldable pub poly_with : Declared → Reader → Reader
 poly_with names inner s = do
   s ← first_from names inner (front s.text) s
   sums names inner (length s.text) s
 
+-- the parenthesis that closes
 abbrev pub closed_from : Token → Reader
 closed_from CloseParenthesis s = Ok (past s)
 closed_from t s = unexpected t s

@@ -27,9 +27,11 @@ abbrev pub ended_from : Token → State → Result (List Op) Fault
 ended_from Nothing s = Ok s.out
 ended_from t s = unexpected t s
 
+-- no steps, and the text from its first token on
 abbrev pub start : List ℕ → State
 start bytes = record { out = []; text = skip_from false bytes }
 
+-- the steps of the one poly that fills the bytes
 unfoldable pub item_at : Declared → List ℕ → Result (List Op) Fault
 item_at names bytes = do
   s ← poly_with names (inside names 64) (start bytes)

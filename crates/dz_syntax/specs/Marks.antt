@@ -10,10 +10,12 @@ use Rattle.dz_syntax.specs.declared.marks.Section.TheVariants.{Equations, Inequa
 use Rattle.dz_syntax.specs.Tokens.{front, behind}
 use Rattle.dz_syntax.specs.Faults.{◌>>=◌, refuse, unexpected_kind}
 
+-- the word before the independents
 abbrev pub is_derivations : Token → Bool
 is_derivations (Word words.Derivations) = true
 is_derivations t = false
 
+-- the word before the blocks
 abbrev pub is_ranking : Token → Bool
 is_ranking (Word words.Ranking) = true
 is_ranking t = false
@@ -31,30 +33,37 @@ is_relation Equations Equals = true
 is_relation Inequations Differs = true
 is_relation section t = false
 
+-- the word before the values
 abbrev pub is_values : Token → Bool
 is_values (Word words.Values) = true
 is_values t = false
 
+-- the word at the end
 abbrev pub is_end : Token → Bool
 is_end (Word words.End) = true
 is_end t = false
 
+-- the end of the text
 abbrev pub is_nothing : Token → Bool
 is_nothing Nothing = true
 is_nothing t = false
 
+-- the mark ;
 abbrev pub is_semicolon : Token → Bool
 is_semicolon Semicolon = true
 is_semicolon t = false
 
+-- the mark [
 abbrev pub is_open_bracket : Token → Bool
 is_open_bracket OpenBracket = true
 is_open_bracket t = false
 
+-- the mark ]
 abbrev pub is_close_bracket : Token → Bool
 is_close_bracket CloseBracket = true
 is_close_bracket t = false
 
+-- the mark =
 abbrev pub is_equals : Token → Bool
 is_equals Equals = true
 is_equals t = false

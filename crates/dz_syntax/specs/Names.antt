@@ -14,6 +14,7 @@ pub record Declared : Type 0 where
   pub all : List (List ℕ)
   pub independents : ℕ
 
+-- at most four independents, and at most sixteen dependents behind them
 pub record IsDeclared (names : Declared) : Type 0 where
   pub independents_fit : names.independents ≤ 4
   pub independents_are : names.independents ≤ length names.all
@@ -23,6 +24,7 @@ pub record IsDeclared (names : Declared) : Type 0 where
 abbrev pub plain : ℕ → Symbol
 plain d = Derivative d identity
 
+-- the symbol of the name with a number, where so many independents stand first
 abbrev pub symbol_numbered : ℕ → Option ℕ → Option Symbol
 symbol_numbered independents None = None
 symbol_numbered independents (Some i) = Some (if nat_lt i independents then Independent i else plain (i - independents))
@@ -50,6 +52,7 @@ abbrev pub FitsSymbol : Symbol → Type 0
 FitsSymbol (Independent i) = i < 4
 FitsSymbol (Derivative d o) = d < 16
 
+-- nothing is declared
 abbrev pub no_names : Declared
 no_names = record { all = []; independents = 0 }
 
@@ -57,6 +60,7 @@ no_names = record { all = []; independents = 0 }
 abbrev pub dependents : Declared → ℕ
 dependents names = length names.all - names.independents
 
+-- how many independents and how many dependents are declared
 abbrev pub signature_of : Declared → Signature
 signature_of names = record { independents = names.independents; dependents = dependents names }
 

@@ -11,9 +11,11 @@ use Rattle.dz_syntax.specs.declared.token.Token.TheVariants.{Name, Number, Word,
 abbrev pub is_separator : ℕ → Bool
 is_separator b = b == 32 || b == 9 || b == 13 || b == 10
 
+-- a letter or _
 abbrev pub is_letter : ℕ → Bool
 is_letter b = is_ascii_alphabetic b || b == 95
 
+-- a letter, _ or a digit
 abbrev pub is_name_byte : ℕ → Bool
 is_name_byte b = is_letter b || is_ascii_digit b
 

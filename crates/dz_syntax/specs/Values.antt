@@ -35,6 +35,7 @@ numerator_from t text = do
   n ← literal_at most_literal Literal text
   Ok (pos n.0, n.1)
 
+-- a numerator with its sign
 unfoldable pub numerator_at : List ℕ → Result (ℤ × List ℕ) Fault
 numerator_at text = numerator_from (front text) text
 
@@ -49,6 +50,7 @@ abbrev pub denominator_from : Token → List ℕ → Result (ℕ × List ℕ) Fa
 denominator_from Slash text = positive_at (behind text)
 denominator_from t text = Ok (1, text)
 
+-- a denominator, 1 where none is written
 unfoldable pub denominator_at : List ℕ → Result (ℕ × List ℕ) Fault
 denominator_at text = denominator_from (front text) text
 

@@ -3,7 +3,9 @@
 ghost use Rattle.std.specs.Prelude.{◌≡◌, ◌≤◌, ◌<◌, length, OnOk, IfOk, List, ℕ};
 ghost use Rattle.dz_syntax.specs.Faults.{Gives};
 ghost use Rattle.dz_syntax.specs.Tokens.{front, behind};
-ghost use Rattle.dz_syntax.specs.Expressions.{State, inside, poly_with, product_with, power_with, atom_with, exponent_at, number_op, symbol_op, sums, factors};
+ghost use Rattle.dz_syntax.specs.Expressions.{State, inside, poly_with, product_with, power_with};
+ghost use Rattle.dz_syntax.specs.Expressions.{atom_with, exponent_at, number_op, symbol_op, sums};
+ghost use Rattle.dz_syntax.specs.Expressions.{factors};
 
 use crate::atom::{literal, symbol};
 use crate::fault::{Stop, SyntaxKind, fault_at, unexpected};
@@ -17,18 +19,26 @@ pub(crate) const MOST_LITERAL: u128 = (1 << 127) - 1;
 /// The greatest exponent.
 const MOST_EXPONENT: u128 = 65_535;
 
-/// One step of an expression in postfix order.
+/// One step of an expression in postfix order: it goes by a stack of values.
 #[derive(Clone, Copy, Debug, PartialEq, Eq)]
 pub enum Op {
+    /// A number from 0 to `2^127 - 1` comes on top.
     Number(i128),
+    /// A symbol comes on top.
     Symbol(Symbol),
+    /// The value on top changes its sign.
     Negate,
+    /// The two values on top give place to their sum.
     Add,
+    /// The two values on top give place to the lower less the upper.
     Sub,
+    /// The two values on top give place to their product.
     Mul,
+    /// The value on top gives place to its power.
     Power(u16),
 }
 
+// A coefficient.
 #[tactic(auto, unfolding(crate::specs::Expressions::number_op))]
 fn number_op<'a>(out: &mut Vec<Op>, text: &'a [u8]) -> Result<&'a [u8], Stop>
     ensures read { Gives (λ t. record { out = out.new.items; text = t.now }) result
@@ -40,6 +50,7 @@ fn number_op<'a>(out: &mut Vec<Op>, text: &'a [u8]) -> Result<&'a [u8], Stop>
     Ok(after)
 }
 
+// A symbol.
 #[tactic(auto, unfolding(crate::specs::Expressions::symbol_op))]
 fn symbol_op<'a>(names: &Names, out: &mut Vec<Op>, text: &'a [u8]) -> Result<&'a [u8], Stop>
     ensures read { Gives (λ t. record { out = out.new.items; text = t.now }) result
@@ -51,6 +62,7 @@ fn symbol_op<'a>(names: &Names, out: &mut Vec<Op>, text: &'a [u8]) -> Result<&'a
     Ok(after)
 }
 
+// An exponent, behind its `^`.
 #[tactic(auto, unfolding(crate::specs::Expressions::exponent_at))]
 fn exponent<'a>(out: &mut Vec<Op>, text: &'a [u8]) -> Result<&'a [u8], Stop>
     ensures read { Gives (λ t. record { out = out.new.items; text = t.now }) result
@@ -62,11 +74,13 @@ fn exponent<'a>(out: &mut Vec<Op>, text: &'a [u8]) -> Result<&'a [u8], Stop>
     Ok(after)
 }
 
+// An atom, and its exponent if a `^` follows.
 #[cycle(poly)]
 #[tactic(auto, unfolding(crate::specs::Expressions::power_with))]
 fn power<'a>(names: &Names, levels: u8, out: &mut Vec<Op>, text: &'a [u8]) -> Result<&'a [u8], Stop>
     ensures read { Gives (λ t. record { out = out.new.items; text = t.now }) result
-        (power_with names.now (inside names.now levels) (record { out = out.old.items; text = text.now })) }
+        (power_with names.now (inside names.now levels)
+        (record { out = out.old.items; text = text.now })) }
     ensures shorter { IfOk result (λ t. length t.now ≤ length text.now) }
 {
     let text = atom(names, levels, out, text)?;
@@ -76,11 +90,13 @@ fn power<'a>(names: &Names, levels: u8, out: &mut Vec<Op>, text: &'a [u8]) -> Re
     }
 }
 
+// A number, a symbol, or an expression in parentheses.
 #[cycle(poly)]
 #[tactic(auto, unfolding(crate::specs::Expressions::atom_with))]
 fn atom<'a>(names: &Names, levels: u8, out: &mut Vec<Op>, text: &'a [u8]) -> Result<&'a [u8], Stop>
     ensures read { Gives (λ t. record { out = out.new.items; text = t.now }) result
-        (atom_with names.now (inside names.now levels) (record { out = out.old.items; text = text.now })) }
+        (atom_with names.now (inside names.now levels)
+        (record { out = out.old.items; text = text.now })) }
     ensures shorter { IfOk result (λ t. length t.now ≤ length text.now) }
 {
     match next(text) {
@@ -91,6 +107,7 @@ fn atom<'a>(names: &Names, levels: u8, out: &mut Vec<Op>, text: &'a [u8]) -> Res
     }
 }
 
+// An expression in parentheses, where `levels` may open inside one another.
 #[cycle(poly)]
 #[tactic(auto, unfolding(crate::specs::Expressions::inside))]
 fn parentheses<'a>(
@@ -114,6 +131,7 @@ fn parentheses<'a>(
     }
 }
 
+// Powers with `*` between them.
 #[cycle(poly)]
 #[tactic(auto, unfolding(crate::specs::Expressions::product_with))]
 fn product<'a>(
@@ -123,13 +141,15 @@ fn product<'a>(
     text: &'a [u8],
 ) -> Result<&'a [u8], Stop>
     ensures read { Gives (λ t. record { out = out.new.items; text = t.now }) result
-        (product_with names.now (inside names.now levels) (record { out = out.old.items; text = text.now })) }
+        (product_with names.now (inside names.now levels)
+        (record { out = out.old.items; text = text.now })) }
     ensures shorter { IfOk result (λ t. length t.now ≤ length text.now) }
 {
     let text = power(names, levels, out, text)?;
     more_factors(names, levels, out, text)
 }
 
+// The factors behind the first, each with the `*` before it.
 #[cycle(poly)]
 fn more_factors<'a>(
     names: &Names,
@@ -138,7 +158,8 @@ fn more_factors<'a>(
     text: &'a [u8],
 ) -> Result<&'a [u8], Stop>
     ensures read { Gives (λ t. record { out = out.new.items; text = t.now }) result
-        (factors names.now (inside names.now levels) (length text.now) (record { out = out.old.items; text = text.now })) }
+        (factors names.now (inside names.now levels) (length text.now)
+        (record { out = out.old.items; text = text.now })) }
     ensures shorter { IfOk result (λ t. length t.now ≤ length text.now) }
 {
     let mut rest = text;
@@ -154,6 +175,8 @@ fn more_factors<'a>(
     }
 }
 
+/// Reads an expression, where `levels` parentheses may open inside one another: its steps are
+/// added to `out`, and what is behind it is answered.
 #[cycle(poly)]
 #[tactic(auto, unfolding(crate::specs::Expressions::poly_with))]
 pub(crate) fn poly<'a>(
@@ -163,7 +186,8 @@ pub(crate) fn poly<'a>(
     text: &'a [u8],
 ) -> Result<&'a [u8], Stop>
     ensures read { Gives (λ t. record { out = out.new.items; text = t.now }) result
-        (poly_with names.now (inside names.now levels) (record { out = out.old.items; text = text.now })) }
+        (poly_with names.now (inside names.now levels)
+        (record { out = out.old.items; text = text.now })) }
     ensures shorter { IfOk result (λ t. length t.now ≤ length text.now) }
 {
     let text = match next(text) {
@@ -178,6 +202,7 @@ pub(crate) fn poly<'a>(
     more_terms(names, levels, out, text)
 }
 
+// The terms behind the first, each with the sign before it.
 #[cycle(poly)]
 fn more_terms<'a>(
     names: &Names,
@@ -186,7 +211,8 @@ fn more_terms<'a>(
     text: &'a [u8],
 ) -> Result<&'a [u8], Stop>
     ensures read { Gives (λ t. record { out = out.new.items; text = t.now }) result
-        (sums names.now (inside names.now levels) (length text.now) (record { out = out.old.items; text = text.now })) }
+        (sums names.now (inside names.now levels) (length text.now)
+        (record { out = out.old.items; text = text.now })) }
     ensures shorter { IfOk result (λ t. length t.now ≤ length text.now) }
 {
     let mut rest = text;

@@ -3,7 +3,9 @@
 ghost use Rattle.std.specs.Prelude.{◌≡◌, ◌≤◌, length, IfOk};
 ghost use Rattle.dz_syntax.specs.Faults.{Gives};
 ghost use Rattle.dz_syntax.specs.Tokens.{front};
-ghost use Rattle.dz_syntax.specs.Marks.{expected, is_close_bracket, is_derivations, is_end, is_equals, is_nothing, is_open_bracket, is_ranking, is_relation, is_semicolon, is_values, is_word_of, kind_of};
+ghost use Rattle.dz_syntax.specs.Marks.{expected, is_close_bracket, is_derivations, is_end};
+ghost use Rattle.dz_syntax.specs.Marks.{is_equals, is_nothing, is_open_bracket, is_ranking};
+ghost use Rattle.dz_syntax.specs.Marks.{is_relation, is_semicolon, is_values, is_word_of, kind_of};
 
 use crate::fault::{Stop, unexpected};
 use crate::token::{Token, Word, next};

@@ -1,9 +1,12 @@
 //! The declared names, and the symbols that they stand for.
 
-ghost use Rattle.std.specs.Prelude.{◌≡◌, ◌≢◌, ◌<◌, ◌≤◌, ◌+◌, [], ◌∷◌, ◌++◌, length, IfOk, IfSome, OnErr, OnOk, Some, None, true, false, is_some, position, map, slice_get};
+ghost use Rattle.std.specs.Prelude.{◌≡◌, ◌≢◌, ◌<◌, ◌≤◌, ◌+◌, [], ◌∷◌, ◌++◌, length, IfOk, IfSome};
+ghost use Rattle.std.specs.Prelude.{OnErr, OnOk, Some, None, true, false, is_some, position, map};
+ghost use Rattle.std.specs.Prelude.{slice_get};
 ghost use Rattle.std.specs.Str.{bytes_eq};
 ghost use Rattle.std.specs.List.{list_any};
-ghost use Rattle.dz_syntax.specs.Names.{Declared, FitsSymbol, HasRoom, declared, dependents, find, known, no_names, room, signature_of};
+ghost use Rattle.dz_syntax.specs.Names.{Declared, FitsSymbol, HasRoom, declared, dependents, find};
+ghost use Rattle.dz_syntax.specs.Names.{known, no_names, room, signature_of};
 ghost use Rattle.dz_syntax.specs.declared.names.Group.TheVariants.{Dependents};
 
 use dz_rank::{Operator, Signature, Symbol};
@@ -31,9 +34,15 @@ impl Model for Names {
 
     ghost Value = { Declared };
 
-    ghost view = { λ n. record { all = map (λ name. name.items) n.set.keys; independents = n.independents } };
+    ghost view = { λ n. record {
+      all = map (λ name. name.items) n.set.keys;
+      independents = n.independents;
+    } };
 
-    ghost invariant = { λ n. IsDeclared (record { all = map (λ name. name.items) n.set.keys; independents = n.independents }) };
+    ghost invariant = { λ n. IsDeclared (record {
+      all = map (λ name. name.items) n.set.keys;
+      independents = n.independents;
+    }) };
 }
 
 // The place of a name in the set.

@@ -5,7 +5,8 @@ ghost use Rattle.dz_rank.specs.Rankings.{block_values};
 ghost use Rattle.dz_syntax.specs.Faults.{Gives};
 ghost use Rattle.dz_syntax.specs.Names.{no_names};
 ghost use Rattle.dz_syntax.specs.Items.{Answers};
-ghost use Rattle.dz_syntax.specs.Systems.{HasExpressions, Tree, header_at, system_at, system_of, tree_of};
+ghost use Rattle.dz_syntax.specs.Systems.{HasExpressions, Tree, header_at, system_at, system_of};
+ghost use Rattle.dz_syntax.specs.Systems.{tree_of};
 ghost use Rattle.dz_syntax.specs.SystemGrammar.{IsSystem};
 ghost use Rattle.dz_syntax.specs.declared.endings.Form.{Form};
 

@@ -2,7 +2,9 @@
 
 ghost use Rattle.std.specs.Prelude.{◌≡◌, ◌≤◌, ◌<◌, ◌+◌, length, false, IsTrue};
 ghost use Rattle.std.specs.Char.{is_ascii_digit};
-ghost use Rattle.dz_syntax.specs.Tokens.{bytes_of, behind, front, front_len, is_letter, is_token, is_name_byte, is_separator, kind_or_name, mark_at, mark_of, skip_from, token_of, word_or_name};
+ghost use Rattle.dz_syntax.specs.Tokens.{bytes_of, behind, front, front_len, is_letter, is_token};
+ghost use Rattle.dz_syntax.specs.Tokens.{is_name_byte, is_separator, kind_or_name, mark_at};
+ghost use Rattle.dz_syntax.specs.Tokens.{mark_of, skip_from, token_of, word_or_name};
 
 use dz_rank::Kind;
 

@@ -1,11 +1,14 @@
 //! The values of symbols.
 
-ghost use Rattle.std.specs.Prelude.{◌≡◌, ◌≤◌, ◌<◌, ◌<ℤ◌, ◌+◌, ◌++◌, ◌∷◌, [], pos, false, length, map, unsigned_abs, IfOk, OnOk};
+ghost use Rattle.std.specs.Prelude.{◌≡◌, ◌≤◌, ◌<◌, ◌<ℤ◌, ◌+◌, ◌++◌, ◌∷◌, [], pos, false, length};
+ghost use Rattle.std.specs.Prelude.{map, unsigned_abs, IfOk, OnOk};
 ghost use Rattle.std.specs.List.{list_any};
 ghost use Rattle.dz_int.specs.Numbers.{greatest};
 ghost use Rattle.dz_syntax.specs.Faults.{Gives};
 ghost use Rattle.dz_syntax.specs.Marks.{separated};
-ghost use Rattle.dz_syntax.specs.Values.{denominator_at, element_of, fraction_at, fraction_of, new_symbol_at, numerator_at, positive_at, same_symbol, value_at};
+ghost use Rattle.dz_syntax.specs.Values.{denominator_at, element_of, fraction_at, fraction_of};
+ghost use Rattle.dz_syntax.specs.Values.{new_symbol_at, numerator_at, positive_at, same_symbol};
+ghost use Rattle.dz_syntax.specs.Values.{value_at};
 
 use crate::atom::{literal, symbol};
 use crate::expression::MOST_LITERAL;
