@@ -32,6 +32,7 @@ pub done_is_solved : {E : Type 0} {o : Operations E} (laws : DomainLaws o) {c : 
 done_is_solved laws point fits words before after out out' (output, (bytes, dec, read, shown), grown) =
     let m = map_some (built bytes) _ output shown in
     let parts = built_parts bytes m.0.0 m.0.1 m.1 in
+    let splits = root_has_solutions laws point fits m.0.0.terms m.0.1 (form_powers bytes m.0.0 parts.0) parts.1 in
     record {
       bytes = bytes;
       form = m.0.0;
@@ -39,7 +40,8 @@ done_is_solved laws point fits words before after out out' (output, (bytes, dec,
       read = read;
       built = m.1;
       printed = subst (Appends out.written out'.written) (sym m.2) grown;
-      solutions = root_has_solutions laws point fits m.0.0.terms m.0.1 (form_powers bytes m.0.0 parts.0) parts.1;
+      solutions = splits.0;
+      nonsingular = splits.1;
     }
 
 -- so does a run that ends with status 0

@@ -29,7 +29,7 @@ use Rattle.dz_poly.specs.Terms.{constant_polynomial, power_term}
 use Rattle.dz_poly.proofs.SymbolLaws.{ranking_order}
 use Rattle.dz_rank.specs.declared.symbols.Symbol.{Symbol}
 use Rattle.dz_run.specs.Sum.{Power, first_signature}
-use Rattle.dz_run.specs.Root.{Root, SolvesRoot, answered, chain, closed, expanded, first_ranking, first_symbols, is_linear, is_linear_in, is_zero, plus_terms, root_for, root_of, term_polynomial, times_powers, with_symbols_of, with_terms}
+use Rattle.dz_run.specs.Root.{Root, RootNonsingular, SolvesRoot, answered, chain, closed, expanded, first_ranking, first_symbols, is_linear, is_linear_in, is_zero, plus_terms, root_for, root_of, term_polynomial, times_powers, with_symbols_of, with_terms}
 use Rattle.dz_run.proofs.Powers.{ArePowers, HavePowers, IsKnown, bind_some}
 
 answered_ok : (r : Result (Polynomial Symbol) Refusal) (p : Polynomial Symbol) → answered r ≡ Some p → r ≡ Ok p
@@ -256,36 +256,47 @@ module _ {E : Type 0} {o : Operations E} (laws : DomainLaws o) {c : Coordinates 
       let same : separant first_symbols.cmp v p ≡ initial first_symbols.cmp v p = separant_linear order v p h most ∙ ap (λ k. coefficient_of first_symbols.cmp v k p) (sym one) in
       subst (λ q. value_at o c q ≢ o.zero) (sym same) (initial_nonzero p v h known l e)
 
-  root_of_splits : (p : Polynomial Symbol) (root : Root) → IsPolynomial first_symbols.cmp p → PolynomialIn IsKnown p → root_of first_symbols p ≡ Some root
-      → (value_at o c p ≡ o.zero) ↔ SolvesRoot first_symbols o c root
+  -- what a tree says of its polynomial at a point
+  abbrev Splits : Polynomial Symbol → Root → Type 0
+  Splits p root = ((value_at o c p ≡ o.zero) ↔ SolvesRoot first_symbols o c root) × RootNonsingular first_symbols o c root
+
+  closed_splits : (p : Polynomial Symbol) → IsPolynomial first_symbols.cmp p → PolynomialIn IsKnown p → (is_ground first_symbols p && not (is_zero p)) ≡ true → Splits p closed
+  closed_splits p h known w = (
+    (λ v. ground_nonzero p h known (and_left _ _ w) (not_empty p (and_right (is_ground first_symbols p) _ w)) v, λ v. absurd v),
+    tt,
+  )
+
+  chain_splits : (p : Polynomial Symbol) → IsPolynomial first_symbols.cmp p → PolynomialIn IsKnown p → is_linear first_symbols p ≡ true → Splits p (chain p)
+  chain_splits p h known l = (
+    (λ v. v, λ v. v),
+    record { initial = λ w e. initial_nonzero p w h known l e; separant = λ w e. separant_nonzero p w h known l e },
+  )
+
+  root_of_splits : (p : Polynomial Symbol) (root : Root) → IsPolynomial first_symbols.cmp p → PolynomialIn IsKnown p → root_of first_symbols p ≡ Some root → Splits p root
   unfolding root_of
   root_of_splits p root h known e =
       elim (is_ground first_symbols p && not (is_zero p)) as (λ b. (is_ground first_symbols p && not (is_zero p)) ≡ b
-      → (if b then Some closed else if is_linear first_symbols p then Some (chain p) else None) ≡ Some root → (value_at o c p ≡ o.zero) ↔ SolvesRoot first_symbols o c root) [
+      → (if b then Some closed else if is_linear first_symbols p then Some (chain p) else None) ≡ Some root → Splits p root) [
         | true ↦ λ w k.
             let same : closed ≡ root = cc in
-            subst (λ x. (value_at o c p ≡ o.zero) ↔ SolvesRoot first_symbols o c x) same (
-              λ v. ground_nonzero p h known (and_left _ _ w) (not_empty p (and_right (is_ground first_symbols p) _ w)) v,
-              λ v. absurd v,
-            )
+            subst (λ x. Splits p x) same (closed_splits p h known w)
         | false ↦ λ w k.
-            elim (is_linear first_symbols p) as (λ b. is_linear first_symbols p ≡ b → (if b then Some (chain p) else None) ≡ Some root → (value_at o c p ≡ o.zero) ↔ SolvesRoot first_symbols o c root) [
+            elim (is_linear first_symbols p) as (λ b. is_linear first_symbols p ≡ b → (if b then Some (chain p) else None) ≡ Some root → Splits p root) [
               | true ↦ λ l k.
                   let same : chain p ≡ root = cc in
-                  subst (λ x. (value_at o c p ≡ o.zero) ↔ SolvesRoot first_symbols o c x) same (
-                    λ v. record { equation = v; initial = λ w e. initial_nonzero p w h known l e; separant = λ w e. separant_nonzero p w h known l e },
-                    λ s. s.equation,
-                  )
+                  subst (λ x. Splits p x) same (chain_splits p h known l)
               | false ↦ λ l k. absurd cc
             ] refl k
       ] refl e
 
-  -- At a point that fits, the equation of a form is zero exactly where the tree that is built for it is solved.
-  pub root_has_solutions : (terms : Contributions Symbol) (root : Root) → HavePowers terms → root_for first_symbols terms ≡ Some root → (value_at o c terms ≡ o.zero) ↔ SolvesRoot first_symbols o c root
+  -- At a point that fits, the equation of a form is zero exactly where the tree that is built for it is solved, and the
+  -- chain of the tree is nonsingular.
+  pub root_has_solutions : (terms : Contributions Symbol) (root : Root) → HavePowers terms → root_for first_symbols terms ≡ Some root
+      → ((value_at o c terms ≡ o.zero) ↔ SolvesRoot first_symbols o c root) × RootNonsingular first_symbols o c root
   unfolding root_for
   root_has_solutions terms root powers e =
       let b = bind_some (expanded first_symbols terms) _ root e in
       let vanishes = norm_vanishes terms b.0 b.1 in
       let splits = root_of_splits (norm b.0) root (norm_is first_symbols.cmp b.0 (expanded_is first_symbols order terms b.0 b.1))
       (in_norm first_symbols.cmp IsKnown b.0 (expanded_known first_symbols terms b.0 powers b.1)) b.2 in
-      (λ v. splits.0 (vanishes.0 v), λ s. vanishes.1 (splits.1 s))
+      ((λ v. splits.0.0 (vanishes.0 v), λ s. vanishes.1 (splits.0.1 s)), splits.1)

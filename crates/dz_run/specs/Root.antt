@@ -104,16 +104,20 @@ NamesAnswer book None None = ⊤
 unfoldable pub root_for : Symbols Symbol → Contributions Symbol → Option Root
 root_for g terms = expanded g terms >>= λ p. root_of g (norm p)
 
--- A point solves a chain if its equation has value zero there, and its initial and its separant have not.
-pub record SolvesChain {E : Type 0} (g : Symbols Symbol) (o : Operations E) (point : Coordinates E) (p : Polynomial Symbol) : Type 0 where
-  pub equation : value_at o point p ≡ o.zero
+-- At a point where neither the initial nor the separant of the equation has value zero, the chain is nonsingular.
+pub record IsNonsingular {E : Type 0} (g : Symbols Symbol) (o : Operations E) (point : Coordinates E) (p : Polynomial Symbol) : Type 0 where
   pub initial : (v : Symbol) → leader g p ≡ Some v → value_at o point (initial g.cmp v p) ≢ o.zero
   pub separant : (v : Symbol) → leader g p ≡ Some v → value_at o point (separant g.cmp v p) ≢ o.zero
 
--- a point solves a root: no point solves a closed one
+-- the chain of a tree, if it has one, is nonsingular at a point
+abbrev pub RootNonsingular : {E : Type 0} → Symbols Symbol → Operations E → Coordinates E → Root → Type 0
+RootNonsingular g o point closed = ⊤
+RootNonsingular g o point (chain p) = IsNonsingular g o point p
+
+-- A point solves a tree if its chain is printed and the equation of the chain has value zero. No point solves a closed one.
 abbrev pub SolvesRoot : {E : Type 0} → Symbols Symbol → Operations E → Coordinates E → Root → Type 0
 SolvesRoot g o point closed = ⊥
-SolvesRoot g o point (chain p) = SolvesChain g o point p
+SolvesRoot g o point (chain p) = value_at o point p ≡ o.zero
 
 -- the ranking of the first form: the one unknown, by total order
 abbrev pub first_ranking : RankingValue

@@ -9,7 +9,7 @@ use Rattle.dz_algebra.specs.Domain.{Operations}
 use Rattle.dz_domain.specs.Point.{Coordinates, value_at}
 use Rattle.dz_run.specs.Answer.{built, document_of, is_decompose, printed}
 use Rattle.dz_run.specs.FirstForm.{FirstForm}
-use Rattle.dz_run.specs.Root.{Root, SolvesRoot, first_symbols}
+use Rattle.dz_run.specs.Root.{Root, RootNonsingular, SolvesRoot, first_symbols}
 use Rattle.dz_run.specs.declared.ending.Ending.{Ending}
 use Rattle.dz_run.specs.declared.ending.Ending.TheVariants.{Done, ReadFault, WriteFault, WriteStuck, NoMemory, TooLong, NotBuilt}
 
@@ -72,7 +72,8 @@ WritesAnswer before after answer (Err WriteStuck) = AppendsPart before.written a
 WritesAnswer before after answer (Err ending) = ⊥
 
 -- What status 0 means at a point of a domain: the whole input was read and spells an equation; the document of a tree for
--- it was printed; and the equation as it is written has value zero at the point exactly where the point solves the tree.
+-- it was printed; the equation as it is written has value zero at the point exactly where the point solves the tree; and
+-- neither the initial nor the separant of a printed chain has value zero there, whether the point solves it or not.
 pub record IsSolvedBy {E : Type 0} (o : Operations E) (point : Coordinates E) (before after : Input) (written written' : Option (List ℕ)) : Type 0 where
   pub bytes : List ℕ
   pub form : FirstForm
@@ -81,3 +82,4 @@ pub record IsSolvedBy {E : Type 0} (o : Operations E) (point : Coordinates E) (b
   pub built : built bytes ≡ Some (form, root)
   pub printed : Appends written written' (document_of form.names root)
   pub solutions : (value_at o point form.terms ≡ o.zero) ↔ SolvesRoot first_symbols o point root
+  pub nonsingular : RootNonsingular first_symbols o point root

@@ -106,7 +106,8 @@ pub fn blad_run<D: Domain, S: Source, K: Sink, L: Sink>(
         × IsTold (record { written = L.written err.old; faults = L.faults err.old; stalls = L.stalls err.old })
         (record { written = L.written err.new; faults = L.faults err.new; stalls = L.stalls err.new }) (message_of ending) }
     // At status 0 the equation that was read has, at a point that fits, value zero exactly where the point solves the tree
-    // whose document was printed. This holds for every point of every differential domain that is handed in.
+    // whose document was printed; and no initial or separant of that tree has value zero there. This holds for every point
+    // of every differential domain that is handed in.
     ensures solutions { result ≡ 0 → FitsSignature first_signature at.now → IsSolvedBy D.operations at.now
         (record { rest = S.rest input.old; faults = S.faults input.old })
         (record { rest = S.rest input.new; faults = S.faults input.new }) (K.written out.old) (K.written out.new) }
