@@ -109,6 +109,27 @@ fn a_point_solves_a_chain(rt: HostRuntime) -> Result<(), Fail> {
     Ok(())
 }
 
+// It holds over polynomials in two variables as well: u is the square of x and the second variable, which no derivation
+// by x moves.
+#[test]
+fn a_point_over_two_variables_solves_a_chain(rt: HostRuntime) -> Result<(), Fail> {
+    let alloc = rt.alloc();
+    let x = Coefficients::new(vec![in alloc; Coefficients::new(vec![in alloc; 0i128, 1]?)]?);
+    let square = Coefficients::new(vec![in alloc; 0i128, 0, 1]?);
+    let one = Coefficients::new(vec![in alloc; 1i128]?);
+    let u = Coefficients::new(vec![in alloc; square, one]?);
+    let at = Point::new(
+        Adjoin::new(Adjoin::new(Whole::new())),
+        vec![in alloc; x]?,
+        vec![in alloc; u]?,
+    );
+    let document = chain(alloc, "u[x] - 2*x")?;
+    let expected = ended(alloc, 0, document.as_str(), "")?;
+    let ran = run_at(alloc, "decompose", system(alloc, "u[x] - 2*x")?, &at)?;
+    assert_eq!(rt; ran, expected);
+    Ok(())
+}
+
 #[test]
 fn a_failing_write_leaves_a_prefix(rt: HostRuntime) -> Result<(), Fail> {
     let alloc = rt.alloc();
