@@ -1,5 +1,5 @@
 -- What a book holds, and what its calls answer.
-use Rattle.std.specs.Prelude.{◌≡◌, ◌<◌, ◌≤◌, ◌⊎◌, ℕ, All, List, [], length, map, take, slice_get, slice_index_or, ℤ, pos, unsigned_abs, Option, Some, None, Result, Ok, Err}
+use Rattle.std.specs.Prelude.{◌≡◌, ◌<◌, ◌≤◌, ◌⊎◌, ℕ, All, List, [], ◌∷◌, ◌++◌, length, map, take, slice_get, slice_index_or, ℤ, pos, unsigned_abs, Option, Some, None, Result, Ok, Err}
 use Rattle.dz_algebra.specs.Amount.{greatest}
 use Rattle.dz_algebra.specs.Monomial.{Monomial}
 use Rattle.dz_algebra.specs.Polynomial.{Polynomial, IsPolynomial, PolynomialIn}
@@ -42,6 +42,11 @@ pub record IsKept (old new : BookValue) : Type 0 where
   pub each : (p : ℕ) → p < length old.polynomials → slice_get new.polynomials p ≡ slice_get old.polynomials p
   pub later : length old.polynomials ≤ length new.polynomials
   pub front : take (length old.polynomials) new.polynomials ≡ old.polynomials
+
+-- one polynomial stands behind those that the book had before, and this is its number
+pub record IsAdded (old new : BookValue) (p : ℕ) : Type 0 where
+  pub number : p ≡ length old.polynomials
+  pub last : new.polynomials ≡ old.polynomials ++ polynomial new p ∷ []
 
 -- what is true of every polynomial in a book: it is canonical, its symbols belong to the signature, it passes no
 -- limit of size, and its coefficients are in range

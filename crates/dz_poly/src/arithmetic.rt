@@ -1,9 +1,9 @@
 //! The operations on polynomials of a book.
 
-ghost use Rattle.std.specs.Prelude.{◌≡◌, ◌≢◌, ◌≤◌, ◌++◌, pos, unsigned_abs, OnOk, OnErr};
+ghost use Rattle.std.specs.Prelude.{◌≡◌, ◌≢◌, ◌≤◌, ◌++◌, pos, unsigned_abs, IfOk, OnOk, OnErr};
 ghost use Rattle.dz_algebra.specs.Amount.{greatest};
 ghost use Rattle.dz_algebra.specs.Size.{operation, sum_answer, difference_answer, product_answer};
-ghost use Rattle.dz_poly.specs.Books.{Gives, IsKept, Lives, polynomial};
+ghost use Rattle.dz_poly.specs.Books.{Gives, IsAdded, IsKept, Lives, polynomial};
 ghost use Rattle.dz_poly.specs.Ranked.{symbols_under};
 ghost use Rattle.dz_poly.specs.Signs.{with_sign};
 ghost use Rattle.dz_poly.specs.Terms.{power_term};
@@ -24,6 +24,7 @@ fn keep_sum(book: &mut Book, a: Poly, sign: Sign, b: Poly) -> Result<Poly, PolyS
     ensures sum { Gives book.new result (operation (symbols_under book.old.ranking)
         (polynomial book.old a ++ with_sign sign (polynomial book.old b))) }
     ensures kept { OnOk result (IsKept book.old book.new) }
+    ensures added { IfOk result (λ p. IsAdded book.old book.new p) }
     ensures refused { OnErr result (book.new ≡ book.old) }
 {
     let sum = sum(
@@ -44,6 +45,7 @@ pub fn add(book: &mut Book, a: Poly, b: Poly) -> Result<Poly, PolyStop>
     ensures sum { Gives book.new result (sum_answer (symbols_under book.old.ranking)
         (polynomial book.old a) (polynomial book.old b)) }
     ensures kept { OnOk result (IsKept book.old book.new) }
+    ensures added { IfOk result (λ p. IsAdded book.old book.new p) }
     ensures refused { OnErr result (book.new ≡ book.old) }
 {
     keep_sum(book, a, Sign::Plus, b)
@@ -57,6 +59,7 @@ pub fn sub(book: &mut Book, a: Poly, b: Poly) -> Result<Poly, PolyStop>
     ensures difference { Gives book.new result (difference_answer (symbols_under book.old.ranking)
         (polynomial book.old a) (polynomial book.old b)) }
     ensures kept { OnOk result (IsKept book.old book.new) }
+    ensures added { IfOk result (λ p. IsAdded book.old book.new p) }
     ensures refused { OnErr result (book.new ≡ book.old) }
 {
     keep_sum(book, a, Sign::Minus, b)
@@ -69,6 +72,7 @@ pub fn mul(book: &mut Book, a: Poly, b: Poly) -> Result<Poly, PolyStop>
     ensures product { Gives book.new result (product_answer (symbols_under book.old.ranking)
         (polynomial book.old a) (polynomial book.old b)) }
     ensures kept { OnOk result (IsKept book.old book.new) }
+    ensures added { IfOk result (λ p. IsAdded book.old book.new p) }
     ensures refused { OnErr result (book.new ≡ book.old) }
 {
     let product = product(
@@ -90,6 +94,7 @@ pub fn mul_term(book: &mut Book, a: Poly, c: i128, s: Symbol, k: u16) -> Result<
     ensures product { Gives book.new result (product_answer (symbols_under book.old.ranking)
         (power_term c s k) (polynomial book.old a)) }
     ensures kept { OnOk result (IsKept book.old book.new) }
+    ensures added { IfOk result (λ p. IsAdded book.old book.new p) }
     ensures refused { OnErr result (book.new ≡ book.old) }
 {
     if book.entry(a).terms.is_empty() {

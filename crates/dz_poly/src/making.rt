@@ -3,7 +3,7 @@
 ghost use Rattle.std.specs.Prelude.{◌≡◌, ◌≢◌, ◌≤◌, ◌<◌, [], pos, unsigned_abs, IfOk, IfErr, OnOk, OnErr};
 ghost use Rattle.dz_algebra.specs.Amount.{greatest};
 ghost use Rattle.dz_algebra.specs.Polynomial.{symbol_polynomial};
-ghost use Rattle.dz_poly.specs.Books.{IsKept, Means};
+ghost use Rattle.dz_poly.specs.Books.{IsAdded, IsKept, Means};
 ghost use Rattle.dz_poly.specs.Entries.{IsEntry};
 ghost use Rattle.dz_poly.specs.Terms.{constant_polynomial, power_term};
 ghost use Rattle.dz_poly.specs.declared.PolyStop.TheVariants.{Memory};
@@ -64,6 +64,7 @@ pub fn zero(book: &mut Book) -> Result<Poly, PolyStop>
     ensures value { IfOk result (λ p. Means book.new p []) }
     ensures memory { IfErr result (λ e. e ≡ Memory) }
     ensures kept { OnOk result (IsKept book.old book.new) }
+    ensures added { IfOk result (λ p. IsAdded book.old book.new p) }
     ensures refused { OnErr result (book.new ≡ book.old) }
 {
     let zero = number(book.allocator(), 0)?;
@@ -76,6 +77,7 @@ pub fn constant(book: &mut Book, value: i128) -> Result<Poly, PolyStop>
     ensures value { IfOk result (λ p. Means book.new p (constant_polynomial value)) }
     ensures memory { IfErr result (λ e. e ≡ Memory) }
     ensures kept { OnOk result (IsKept book.old book.new) }
+    ensures added { IfOk result (λ p. IsAdded book.old book.new p) }
     ensures refused { OnErr result (book.new ≡ book.old) }
 {
     let constant = number(book.allocator(), value)?;
@@ -89,6 +91,7 @@ pub fn symbol_poly(book: &mut Book, s: Symbol) -> Result<Poly, PolyStop>
     ensures value { IfOk result (λ p. Means book.new p (symbol_polynomial s)) }
     ensures memory { IfErr result (λ e. e ≡ Memory) }
     ensures kept { OnOk result (IsKept book.old book.new) }
+    ensures added { IfOk result (λ p. IsAdded book.old book.new p) }
     ensures refused { OnErr result (book.new ≡ book.old) }
 {
     let symbol = power(book.allocator(), 1, s, 1)?;
