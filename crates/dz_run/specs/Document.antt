@@ -34,11 +34,3 @@ chain_sections number (chain ∷ chains) = chain_section number chain ++ chain_s
 abbrev pub document : ℕ → List (List ℕ) → List ChainTexts → List ℕ
 document budget tree chains =
     head_lines budget ++ lines_of [] tree ++ line (codes "chains " ++ decimal (length chains)) ++ chain_sections 1 chains ++ line (codes "end")
-
--- the document of a tree that is closed at its root
-abbrev pub closed_document : ℕ → List ℕ
-closed_document budget = document budget (codes "closed" ∷ []) []
-
--- the document of a tree whose root is a chain with one equation of this text
-abbrev pub chain_document : ℕ → List ℕ → List ℕ
-chain_document budget equation = document budget (codes "chain" ∷ []) (record { equations = equation ∷ []; inequations = [] } ∷ [])

@@ -1,11 +1,17 @@
 -- How a run ends: its status, and its message.
-use Rattle.std.specs.Prelude.{ℕ, List, [], codes, ⊤}
+use Rattle.std.specs.Prelude.{ℕ, List, [], ◌++◌, codes, ⊤, ⊥}
+use Rattle.std.specs.Fmt.{decimal}
+use Rattle.dz_syntax.specs.declared.fault.SyntaxFault.{SyntaxFault}
+use Rattle.dz_syntax.specs.Faults.{text_of}
 use Rattle.dz_run.specs.declared.ending.Ending.{Ending}
-use Rattle.dz_run.specs.declared.ending.Ending.TheVariants.{Done, ReadFault, WriteFault, WriteStuck, NoMemory, TooLong, NotBuilt}
+use Rattle.dz_run.specs.declared.ending.Ending.TheVariants.{Done, Syntax, Wide, Large, ReadFault, WriteFault, WriteStuck, NoMemory, TooLong, NotBuilt}
 
 -- the status with which the program ends
 abbrev pub status_of : Ending → ℕ
 status_of Done = 0
+status_of (Syntax fault) = 3
+status_of Wide = 4
+status_of Large = 6
 status_of ReadFault = 7
 status_of WriteFault = 8
 status_of WriteStuck = 8
@@ -16,6 +22,9 @@ status_of NotBuilt = 12
 -- the line on the error output, or nothing
 abbrev pub message_of : Ending → List ℕ
 message_of Done = []
+message_of (Syntax fault) = codes "blad: syntax: byte " ++ decimal fault.place ++ codes ": " ++ text_of fault.kind ++ codes "\n"
+message_of Wide = codes "blad: wide\n"
+message_of Large = codes "blad: large\n"
 message_of ReadFault = codes "blad: read fault\n"
 message_of WriteFault = codes "blad: write fault\n"
 message_of WriteStuck = codes "blad: write stuck\n"
@@ -26,6 +35,13 @@ message_of NotBuilt = codes "blad: not built yet\n"
 -- an ending at which nothing was to be written on the output
 abbrev pub IsSilent : Ending → Type 0
 IsSilent Done = ⊥
+IsSilent Wide = ⊥
+IsSilent Large = ⊥
 IsSilent WriteFault = ⊥
 IsSilent WriteStuck = ⊥
 IsSilent ending = ⊤
+
+-- the input was no system text
+abbrev pub IsSyntax : Ending → Type 0
+IsSyntax (Syntax fault) = ⊤
+IsSyntax ending = ⊥

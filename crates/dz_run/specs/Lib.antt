@@ -1,10 +1,6 @@
-pub mod Token
-pub mod Reading
-pub mod Sum
-pub mod FirstForm
-pub mod Text
 pub mod Document
 pub mod Ending
+pub mod System
 pub mod Root
 pub mod Answer
 pub mod Run

@@ -1,68 +1,86 @@
--- What the terms of an equation make, and the tree of one line that answers it.
-use Rattle.std.specs.Prelude.{◌≡◌, ◌≢◌, ⊤, ℕ, ◌==◌, ◌&&◌, ◌||◌, not, Bool, true, false, if◌then◌else◌, List, [], ◌∷◌, length, map, ℤ, pos, negsuc, Option, Some, None, Result, Ok, Err}
-use Rattle.std.specs.Option.{option_and_then}
+-- The root of a system, and the tree of one line for a root that needs no work (this project).
+use Rattle.std.specs.Prelude.{◌≡◌, ◌≢◌, ⊤, ⊥, ℕ, ◌==◌, ◌&&◌, ◌||◌, nat_le, not, Bool, true, false, if◌then◌else◌, List, [], ◌∷◌, ◌++◌, length, All, ℤ, pos, negsuc, Option, Some, None}
+use Rattle.std.specs.declared.cmp.Ordering.{Ordering}
+use Rattle.std.specs.declared.cmp.Ordering.TheVariants.{Equal}
 use Rattle.dz_algebra.specs.Domain.{Operations}
-use Rattle.dz_algebra.specs.Monomial.{Monomial}
-use Rattle.dz_algebra.specs.Polynomial.{Contributions, Polynomial}
+use Rattle.dz_algebra.specs.Monomial.{Monomial, monomial_cmp}
+use Rattle.dz_algebra.specs.Polynomial.{Polynomial}
 use Rattle.dz_algebra.specs.Parts.{coefficient_of, degree, initial, is_ground, leader, separant}
 use Rattle.dz_algebra.specs.Norm.{norm}
-use Rattle.dz_algebra.specs.Size.{Refusal, product_answer, sum_answer, symbols}
 use Rattle.dz_algebra.specs.Symbols.{Symbols}
 use Rattle.dz_domain.specs.Point.{Coordinates, value_at}
+use Rattle.dz_form.specs.Values.{Polynomials}
 use Rattle.dz_rank.specs.declared.symbols.Symbol.{Symbol}
-use Rattle.dz_rank.specs.declared.rankings.Kind.TheVariants.{GrlexA}
-use Rattle.dz_rank.specs.Rankings.{RankingValue}
 use Rattle.dz_poly.specs.Books.{BookValue, Means}
-use Rattle.dz_poly.specs.Ranked.{symbols_under}
-use Rattle.dz_poly.specs.Terms.{constant_polynomial, power_term}
+use Rattle.dz_run.specs.declared.system.Group.{Group}
+use Rattle.dz_run.specs.declared.system.Group.TheVariants.{Equation, Inequation}
 use Rattle.dz_run.specs.declared.root.Tree.{Tree}
-use Rattle.dz_run.specs.declared.root.Tree.TheVariants.{Closed, Chain}
-use Rattle.dz_run.specs.Sum.{Power, first_signature}
+use Rattle.dz_run.specs.declared.root.Tree.TheVariants as trees
+use Rattle.dz_run.specs.System.{MeanAll, System}
 
-infixl 10 ◌>>=◌
-abbrev pub ◌>>=◌ : {A B : Type 0} → Option A → (A → Option B) → Option B
-o >>= f = option_and_then f o
-
--- the polynomial of an operation that is not refused
-abbrev pub answered : Result (Polynomial Symbol) Refusal → Option (Polynomial Symbol)
-answered (Ok p) = Some p
-answered (Err e) = None
-
--- a polynomial times powers, from left to right
-abbrev pub times_powers : Symbols Symbol → Polynomial Symbol → List Power → Option (Polynomial Symbol)
-times_powers g p [] = Some p
-times_powers g p (s ∷ powers) = answered (product_answer g (power_term (pos 1) s.0 s.1) p) >>= λ q. times_powers g q powers
-
--- a polynomial, if so many symbols occur in it
-abbrev pub with_symbols_of : Symbols Symbol → ℕ → Polynomial Symbol → Option (Polynomial Symbol)
-with_symbols_of g count p = if length (symbols g.cmp (map (λ t. t.0) p)) == count then Some p else None
-
--- the polynomial of a term in which no symbol stands twice
-abbrev pub term_polynomial : Symbols Symbol → Monomial Symbol × ℤ → Option (Polynomial Symbol)
-term_polynomial g t = times_powers g (constant_polynomial t.1) t.0 >>= with_symbols_of g (length t.0)
-
--- a polynomial and further terms, added from left to right
-abbrev pub plus_terms : Symbols Symbol → Polynomial Symbol → Contributions Symbol → Option (Polynomial Symbol)
-plus_terms g p [] = Some p
-plus_terms g p (t ∷ terms) = term_polynomial g t >>= λ q. answered (sum_answer g p q) >>= λ s. plus_terms g s terms
-
--- a polynomial, if it has so many terms
-abbrev pub with_terms : ℕ → Polynomial Symbol → Option (Polynomial Symbol)
-with_terms count p = if length p == count then Some p else None
-
--- the polynomial of terms of which no two stand at one monomial
-unfoldable pub expanded : Symbols Symbol → Contributions Symbol → Option (Polynomial Symbol)
-expanded g terms = plus_terms g [] terms >>= with_terms (length terms)
-
--- A tree of one line: its root is closed, or a chain with one equation.
-pub data Root : Type 0 where
-  closed : Root
-  chain : Polynomial Symbol → Root
-
+-- ---- tests of polynomials
 -- the polynomial is zero
 abbrev pub is_zero : Polynomial Symbol → Bool
 is_zero [] = true
 is_zero (t ∷ p) = false
+
+-- the polynomial is ground and not zero
+abbrev pub is_unit : Symbols Symbol → Polynomial Symbol → Bool
+is_unit g p = is_ground g p && not (is_zero p)
+
+abbrev is_equal : Ordering → Bool
+is_equal Equal = true
+is_equal o = false
+
+abbrev same_whole : ℤ → ℤ → Bool
+same_whole (pos m) (pos n) = m == n
+same_whole (negsuc m) (negsuc n) = m == n
+same_whole a b = false
+
+-- two polynomials have the same terms
+abbrev pub same : Symbols Symbol → Polynomial Symbol → Polynomial Symbol → Bool
+same g [] [] = true
+same g [] (u ∷ q) = false
+same g (t ∷ p) [] = false
+same g (t ∷ p) (u ∷ q) = (is_equal (monomial_cmp g.cmp t.0 u.0) && same_whole t.1 u.1) && same g p q
+
+-- the polynomial stands in a list
+abbrev pub is_member : Symbols Symbol → Polynomial Symbol → Polynomials → Bool
+is_member g p [] = false
+is_member g p (q ∷ qs) = same g p q || is_member g p qs
+
+-- ---- the root
+-- equations that are zero are dropped, and inequations that are ground and not zero
+abbrev pub is_dropped : Symbols Symbol → Group → Polynomial Symbol → Bool
+is_dropped g Equation p = is_zero p
+is_dropped g Inequation p = is_unit g p
+
+-- the norms in their order, without those that are dropped and without repeats; some are kept already
+abbrev pub kept_norms : Symbols Symbol → Group → Polynomials → Polynomials → Polynomials
+kept_norms g group kept [] = kept
+kept_norms g group kept (p ∷ ps) =
+    if is_dropped g group (norm p) || is_member g (norm p) kept then kept_norms g group kept ps else kept_norms g group (kept ++ norm p ∷ []) ps
+
+unfoldable pub root : Symbols Symbol → System → System
+root g s = record { equations = kept_norms g Equation [] s.equations; inequations = kept_norms g Inequation [] s.inequations }
+
+-- ---- the tree of one line
+-- Its root is closed, or a chain with these equations and no inequation.
+pub data Root : Type 0 where
+  closed : Root
+  chain : Polynomials → Root
+
+abbrev pub has_unit : Symbols Symbol → Polynomials → Bool
+has_unit g [] = false
+has_unit g (p ∷ ps) = is_unit g p || has_unit g ps
+
+abbrev pub has_zero : Polynomials → Bool
+has_zero [] = false
+has_zero (p ∷ ps) = is_zero p || has_zero ps
+
+-- some equation is ground and not zero, or some inequation is zero
+abbrev pub is_closed : Symbols Symbol → System → Bool
+is_closed g s = has_unit g s.equations || has_zero s.inequations
 
 abbrev is_empty : Monomial Symbol → Bool
 is_empty [] = true
@@ -89,20 +107,28 @@ is_linear_in g p (Some v) =
 abbrev pub is_linear : Symbols Symbol → Polynomial Symbol → Bool
 is_linear g p = is_linear_in g p (leader g p)
 
--- the tree for a polynomial that is its own norm, where its root needs no work: closed where it is ground and not zero
-unfoldable pub root_of : Symbols Symbol → Polynomial Symbol → Option Root
-root_of g p = if is_ground g p && not (is_zero p) then Some closed else if is_linear g p then Some (chain p) else None
+-- a root without inequations and with at most one equation is at rest where that is linear
+abbrev pub resting : Symbols Symbol → System → Option Root
+resting g (record { equations = []; inequations = [] }) = Some (chain [])
+resting g (record { equations = p ∷ []; inequations = [] }) = if is_linear g p then Some (chain (p ∷ [])) else None
+resting g s = None
 
--- an answer is the name of this polynomial, or nothing where there is none
-abbrev pub NamesAnswer : BookValue → Option ℕ → Option (Polynomial Symbol) → Type 0
-NamesAnswer book (Some p) (Some q) = Means book p q
-NamesAnswer book (Some p) None = ⊥
-NamesAnswer book None (Some q) = ⊥
-NamesAnswer book None None = ⊤
+-- the tree of one line for a root: closed, or a chain where the root is at rest
+unfoldable pub tree_of_root : Symbols Symbol → System → Option Root
+tree_of_root g s = if is_closed g s then Some closed else resting g s
 
--- the tree for the terms of an equation, where it is built
-unfoldable pub root_for : Symbols Symbol → Contributions Symbol → Option Root
-root_for g terms = expanded g terms >>= λ p. root_of g (norm p)
+-- a tree of the code is this one, or there is none
+abbrev pub IsTree : BookValue → Option Tree → Option Root → Type 0
+IsTree book (Some trees.Closed) (Some closed) = ⊤
+IsTree book (Some (trees.Chain ps)) (Some (chain qs)) = MeanAll book ps.items qs
+IsTree book None None = ⊤
+IsTree book tree root = ⊥
+
+-- ---- at a point
+-- every equation has value zero, and no inequation has
+pub record Solves {E : Type 0} (o : Operations E) (point : Coordinates E) (s : System) : Type 0 where
+  pub equations : All (λ p. value_at o point p ≡ o.zero) s.equations
+  pub inequations : All (λ p. value_at o point p ≢ o.zero) s.inequations
 
 -- At a point where neither the initial nor the separant of the equation has value zero, the chain is nonsingular.
 pub record IsNonsingular {E : Type 0} (g : Symbols Symbol) (o : Operations E) (point : Coordinates E) (p : Polynomial Symbol) : Type 0 where
@@ -112,24 +138,9 @@ pub record IsNonsingular {E : Type 0} (g : Symbols Symbol) (o : Operations E) (p
 -- the chain of a tree, if it has one, is nonsingular at a point
 abbrev pub RootNonsingular : {E : Type 0} → Symbols Symbol → Operations E → Coordinates E → Root → Type 0
 RootNonsingular g o point closed = ⊤
-RootNonsingular g o point (chain p) = IsNonsingular g o point p
+RootNonsingular g o point (chain es) = All (λ p. IsNonsingular g o point p) es
 
--- A point solves a tree if its chain is printed and the equation of the chain has value zero. No point solves a closed one.
-abbrev pub SolvesRoot : {E : Type 0} → Symbols Symbol → Operations E → Coordinates E → Root → Type 0
-SolvesRoot g o point closed = ⊥
-SolvesRoot g o point (chain p) = value_at o point p ≡ o.zero
-
--- the ranking of the first form: the one unknown, by total order
-abbrev pub first_ranking : RankingValue
-first_ranking = record { signature = first_signature; blocks = record { kind = GrlexA; dependents = 0 ∷ [] } ∷ [] }
-
--- its symbols
-abbrev pub first_symbols : Symbols Symbol
-first_symbols = symbols_under first_ranking
-
--- a tree of the code is this one, or there is none
-abbrev pub IsTree : BookValue → Option Tree → Option Root → Type 0
-IsTree book (Some Closed) (Some closed) = ⊤
-IsTree book (Some (Chain p)) (Some (chain q)) = Means book p q
-IsTree book None None = ⊤
-IsTree book tree root = ⊥
+-- A point solves a tree if its chain is printed and every equation of the chain has value zero. No point solves a closed one.
+abbrev pub SolvesRoot : {E : Type 0} → Operations E → Coordinates E → Root → Type 0
+SolvesRoot o point closed = ⊥
+SolvesRoot o point (chain es) = All (λ p. value_at o point p ≡ o.zero) es

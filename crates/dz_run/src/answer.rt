@@ -1,21 +1,44 @@
 // What the program answers to its words and its input.
-ghost use Rattle.std.specs.Prelude.{◌≡◌, IfOk, OnOk, map, string_bytes};
-ghost use Rattle.std.specs.Option.{option_map};
-ghost use Rattle.dz_run.specs.Answer.{TreeLives, document_in, is_decompose, printed};
-ghost use Rattle.dz_run.specs.Root.{IsTree, first_ranking, first_symbols, root_for};
+ghost use Rattle.std.specs.Prelude.{◌≡◌, IfOk, OnOk, Ok, map, string_bytes};
+ghost use Rattle.dz_syntax.specs.Names.{signature_of};
+ghost use Rattle.dz_syntax.specs.Systems.{HasExpressions, tree_of};
+ghost use Rattle.dz_run.specs.Answer.{answer_of, answer_to, built, built_answer, is_decompose, refused_ending, silent, system_told};
+ghost use Rattle.dz_run.specs.Root.{IsTree};
+ghost use Rattle.dz_run.specs.System.{LivesSystem, ranking_of, system_answer, system_in};
 
 use crate::document::{chain_document, closed_document};
-use crate::expansion::expand;
-use crate::first_form::first_form;
-use crate::root::{Tree, root_of};
-use crate::sum::{Names, Term};
-use crate::text::write_poly;
-use dz_poly::{Book, normalise};
-use dz_rank::{Block, Kind, Ranking, Signature};
+use crate::ending::Ending;
+use crate::root::{Tree, root, tree_of_root};
+use crate::system::{Refused, Stop, System, refused_line, system};
+use dz_poly::Book;
+use dz_rank::Ranking;
+use dz_syntax::{Form, Names, SyntaxKind, SystemTree, read_system};
 use std::alloc::{AllocError, Global};
 
 /// The most weight that a tree may have where the words name no budget.
 const DEFAULT_BUDGET: u32 = 1_000_000;
+
+/// What is to be printed, and how the run ends where the output takes all of it.
+#[derive(Drop)]
+pub(crate) struct Told {
+    pub output: Vec<u8>,
+    pub ending: Ending,
+}
+
+impl Told {
+    ghost use Rattle.std.specs.Prelude.{◌≡◌};
+    ghost use Rattle.dz_run.specs.Answer.{answer_of, silent};
+
+    /// Nothing is printed.
+    fn silent(alloc: Global, ending: Ending) -> Told
+        ensures { answer_of result ≡ silent ending }
+    {
+        Told {
+            output: Vec::new(alloc),
+            ending,
+        }
+    }
+}
 
 /// Whether the words are the one word `decompose`.
 pub(crate) fn is_decompose(words: &[String]) -> bool
@@ -27,72 +50,85 @@ pub(crate) fn is_decompose(words: &[String]) -> bool
     }
 }
 
-/// The ranking of the first form: one independent, and one unknown.
-fn first_ranking(alloc: Global) -> Result<Ranking, AllocError>
-    ensures { IfOk result (λ ranking. ranking ≡ first_ranking) }
+/// How the run ends for what is refused.
+fn refused_ending(refused: Refused) -> Ending
+    ensures { result ≡ refused_ending refused }
 {
-    let mut dependents = Vec::new(alloc);
-    dependents.push(0)?;
-    let blocks = [Block {
-        kind: Kind::GrlexA,
-        dependents,
-    }];
-    let signature = Signature {
-        independents: 1,
-        dependents: 1,
-    };
-    Ranking::new(alloc, signature, &blocks).map_err(|_| AllocError)
-}
-
-/// The tree for the terms of an equation, where it is built.
-#[tactic(auto, unfolding(crate::specs::Root::root_for))]
-fn tree_for(book: &mut Book, terms: &[Term]) -> Result<Option<Tree>, AllocError>
-    requires { book.old.ranking ≡ first_ranking }
-    ensures value { IfOk result (λ o. IsTree book.new o (root_for first_symbols terms.now)) }
-    ensures ranking { OnOk result (book.new.ranking ≡ first_ranking) }
-{
-    let Some(p) = expand(book, terms)? else {
-        return Ok(None);
-    };
-    let Ok(norm) = normalise(book, p) else {
-        return Err(AllocError);
-    };
-    let tree = root_of(book, norm)?;
-    Ok(tree)
-}
-
-/// The document of a tree of one line.
-fn document(alloc: Global, names: &Names, book: &Book, tree: Tree) -> Result<Vec<u8>, AllocError>
-    requires { TreeLives book.now tree }
-    ensures { IfOk result (λ text. text.items ≡ document_in
-        (record { independent = names.now.independent.now; unknown = names.now.unknown.now }) book.now tree) }
-{
-    match tree {
-        Tree::Closed => {
-            let text = closed_document(alloc, DEFAULT_BUDGET)?;
-            Ok(text)
-        }
-        Tree::Chain(p) => {
-            let mut equation = Vec::new(alloc);
-            write_poly(alloc, &mut equation, names, book, p)?;
-            let text = chain_document(alloc, DEFAULT_BUDGET, &equation)?;
-            Ok(text)
-        }
+    match refused {
+        Refused::Wide(..) => Ending::Wide,
+        Refused::Large(..) | Refused::TooMany(_) => Ending::Large,
     }
 }
 
-/// What is printed for the bytes of an input, and `None` where they are not built.
-#[tactic(auto, using(crate::proofs::Documents::document_is, crate::proofs::Documents::tree_lives), unfolding(crate::specs::Answer::built))]
-pub(crate) fn printed(alloc: Global, bytes: &[u8]) -> Result<Option<Vec<u8>>, AllocError>
-    ensures { IfOk result (λ output. option_map (λ text. text.items) output ≡ printed bytes.now) }
+/// The tree of one line for a system, which is built with at most one independent.
+#[tactic(auto, unfolding(crate::specs::Answer::built))]
+fn built(alloc: Global, book: &mut Book, tree: &SystemTree, system: &System) -> Result<Option<Tree>, AllocError>
+    requires ranking { book.old.ranking ≡ ranking_of (tree_of tree.now) }
+    requires lives { LivesSystem book.old system.now }
+    ensures value { IfOk result (λ o. IsTree book.new o (built (tree_of tree.now) (system_in book.old system.now))) }
+    ensures ranking { OnOk result (book.new.ranking ≡ book.old.ranking) }
 {
-    let Some(form) = first_form(alloc, bytes)? else {
+    if tree.signature.independents > 1 {
         return Ok(None);
+    }
+    let root = root(alloc, book, system)?;
+    let tree = tree_of_root(book, root)?;
+    Ok(tree)
+}
+
+/// The answer for the tree of a root.
+fn built_answer(alloc: Global, names: &Names, book: &Book, tree: Option<Tree>) -> Result<Told, AllocError>
+    requires signature { signature_of names.now ≡ book.now.ranking.signature }
+    ensures { (o : _) → IsTree book.now tree o → IfOk result (λ told. answer_of told ≡ built_answer names.now o) }
+{
+    let output = match tree {
+        None => return Ok(Told::silent(alloc, Ending::NotBuilt)),
+        Some(Tree::Closed) => closed_document(alloc, DEFAULT_BUDGET)?,
+        Some(Tree::Chain(equations)) => {
+            chain_document(alloc, DEFAULT_BUDGET, names, book, &equations)?
+        }
     };
-    let mut book = Book::new(alloc, first_ranking(alloc)?);
-    let Some(tree) = tree_for(&mut book, &form.terms)? else {
-        return Ok(None);
+    Ok(Told {
+        output,
+        ending: Ending::Done,
+    })
+}
+
+/// The answer for a text that was read.
+fn tree_told(alloc: Global, book: &mut Book, tree: &SystemTree) -> Result<Told, AllocError>
+    requires ranking { book.old.ranking ≡ ranking_of (tree_of tree.now) }
+    requires expressions { HasExpressions (tree_of tree.now) }
+    requires signature { tree.now.signature ≡ signature_of tree.now.names }
+    ensures { IfOk result (λ told. answer_of told ≡ system_told (tree_of tree.now) (system_answer (tree_of tree.now))) }
+{
+    let system = match system(alloc, book, tree) {
+        Ok(system) => system,
+        Err(Stop::Memory) => return Err(AllocError),
+        Err(Stop::Refused(refused)) => {
+            let output = refused_line(alloc, refused)?;
+            let ending = refused_ending(refused);
+            return Ok(Told { output, ending });
+        }
     };
-    let text = document(alloc, &form.names, &book, tree)?;
-    Ok(Some(text))
+    let root = built(alloc, book, tree, &system)?;
+    built_answer(alloc, &tree.names, book, root)
+}
+
+/// The answer to the bytes of an input.
+#[tactic(auto, unfolding(crate::specs::Answer::answer_to))]
+pub(crate) fn answer(alloc: Global, bytes: &[u8]) -> Result<Told, AllocError>
+    ensures { IfOk result (λ told. answer_of told ≡ answer_to bytes.now) }
+{
+    let tree = match read_system(alloc, bytes, Form::Plain) {
+        Ok(tree) => tree,
+        Err(fault) => match fault.kind {
+            SyntaxKind::Memory => return Err(AllocError),
+            _ => return Ok(Told::silent(alloc, Ending::Syntax(fault))),
+        },
+    };
+    let Ok(ranking) = Ranking::new(alloc, tree.signature, &tree.blocks) else {
+        return Err(AllocError);
+    };
+    let mut book = Book::new(alloc, ranking);
+    tree_told(alloc, &mut book, &tree)
 }

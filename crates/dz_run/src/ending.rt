@@ -1,12 +1,20 @@
 // How a run ends.
 ghost use Rattle.std.specs.Prelude.{◌≡◌};
-ghost use Rattle.dz_run.specs.Ending.{message_of, status_of};
+
+use dz_syntax::SyntaxFault;
 
 /// How a run ends.
 #[derive(Clone, Copy, Debug, PartialEq, Eq)]
 pub enum Ending {
     /// The whole answer stands on the output.
     Done,
+    /// The input is no system text, by this first fault.
+    Syntax(SyntaxFault),
+    /// An item does not expand: its first refused operation is wide. The output names the item.
+    Wide,
+    /// An item does not expand: its first refused operation is too large; or the system has too
+    /// many members or terms. The output names the item and the limit.
+    Large,
     /// The input failed.
     ReadFault,
     /// The output failed.
@@ -23,7 +31,7 @@ pub enum Ending {
 
 impl Ending {
     ghost use Rattle.std.specs.Prelude.{◌≡◌};
-    ghost use Rattle.dz_run.specs.Ending.{message_of, status_of};
+    ghost use Rattle.dz_run.specs.Ending.{status_of};
 
     /// The status with which the program ends.
     pub fn status(self) -> u8
@@ -31,26 +39,14 @@ impl Ending {
     {
         match self {
             Ending::Done => 0,
+            Ending::Syntax(_) => 3,
+            Ending::Wide => 4,
+            Ending::Large => 6,
             Ending::ReadFault => 7,
             Ending::WriteFault | Ending::WriteStuck => 8,
             Ending::NoMemory => 9,
             Ending::TooLong => 11,
             Ending::NotBuilt => 12,
-        }
-    }
-
-    /// The line for the error output, with its line feed, or nothing.
-    pub fn message(self) -> &'static [u8]
-        ensures { result.now ≡ message_of self }
-    {
-        match self {
-            Ending::Done => b"",
-            Ending::ReadFault => b"blad: read fault\n",
-            Ending::WriteFault => b"blad: write fault\n",
-            Ending::WriteStuck => b"blad: write stuck\n",
-            Ending::NoMemory => b"blad: no memory\n",
-            Ending::TooLong => b"blad: input too long\n",
-            Ending::NotBuilt => b"blad: not built yet\n",
         }
     }
 }

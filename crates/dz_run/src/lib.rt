@@ -4,14 +4,10 @@
 mod answer;
 mod document;
 mod ending;
-mod expansion;
-mod first_form;
-mod reading;
+mod message;
 mod root;
 mod run;
-mod sum;
-mod text;
-mod token;
+mod system;
 
 pub use ending::Ending;
 pub use run::{blad_run, tell};

@@ -1,0 +1,203 @@
+// The polynomials of a system: its items are expanded in order.
+ghost use Rattle.std.specs.Prelude.{◌≡◌, ◌++◌, ◌+◌, ◌-◌, ◌^◌, All, IfOk, OnOk, min, decimal};
+ghost use Rattle.dz_form.specs.Values.{item_answer};
+ghost use Rattle.dz_poly.specs.Books.{IsKept};
+ghost use Rattle.dz_poly.specs.Ranked.{symbols_under};
+ghost use Rattle.dz_syntax.specs.Postfix.{IsExpression};
+ghost use Rattle.dz_syntax.specs.Systems.{HasExpressions, tree_of};
+ghost use Rattle.dz_run.specs.System.{GivesAll, GivesNumbered, GivesSystem, LiveAll, polynomials};
+ghost use Rattle.dz_run.specs.System.{group_name, items_answer, limit_name, numbered, ranking_of, refused_line, system_answer};
+ghost use Rattle.dz_run.specs.System.{terms_of, within_limits};
+
+use dz_form::expand;
+use dz_poly::{Book, Limit, Poly, PolyStop, term_count};
+use dz_syntax::{Item, SystemTree};
+use itoa::Buffer;
+use std::alloc::{AllocError, AllocFailed, Global};
+
+/// The lists of a system.
+#[derive(Clone, Copy, Debug, PartialEq, Eq)]
+pub(crate) enum Group {
+    Equation,
+    Inequation,
+}
+
+/// Why a text that was read gives no system. Items are numbered in their group, from 1.
+#[derive(Clone, Copy, Debug, PartialEq, Eq)]
+pub(crate) enum Refused {
+    /// The first refused operation of the first refused item is wide.
+    Wide(Group, usize),
+    /// It passes this limit.
+    Large(Group, usize, Limit),
+    /// The system passes this limit.
+    TooMany(Limit),
+}
+
+/// Why there is no system.
+#[derive(Debug, Drop)]
+pub(crate) enum Stop {
+    Memory,
+    Refused(Refused),
+}
+
+impl From<AllocError> for Stop {
+    ghost use Rattle.std.specs.Prelude.{◌≡◌};
+    ghost use Rattle.dz_run.specs.declared.system.Stop.TheVariants.{Memory};
+
+    ghost from_gives = { λ _ e. e ≡ Memory };
+
+    fn from(_error: AllocError) -> Stop {
+        Stop::Memory
+    }
+}
+
+impl<T: Drop> From<AllocFailed<T>> for Stop {
+    ghost use Rattle.std.specs.Prelude.{◌≡◌};
+    ghost use Rattle.dz_run.specs.declared.system.Stop.TheVariants.{Memory};
+
+    ghost from_gives = { λ _ e. e ≡ Memory };
+
+    fn from(_error: AllocFailed<T>) -> Stop {
+        Stop::Memory
+    }
+}
+
+/// The polynomials of a system, by their names in a book.
+#[derive(Drop)]
+pub(crate) struct System {
+    pub equations: Vec<Poly>,
+    pub inequations: Vec<Poly>,
+}
+
+/// The value of the item with this number in its group.
+fn expand_numbered(book: &mut Book, group: Group, number: usize, item: &Item) -> Result<Poly, Stop>
+    requires { IsExpression book.old.ranking.signature item.now }
+    ensures value { GivesNumbered book.new result (numbered group number (item_answer (symbols_under book.old.ranking) item.now)) }
+    ensures kept { OnOk result (IsKept book.old book.new) }
+{
+    match expand(book, item) {
+        Ok(p) => Ok(p),
+        Err(PolyStop::Memory) => Err(Stop::Memory),
+        Err(PolyStop::Wide) => Err(Stop::Refused(Refused::Wide(group, number))),
+        Err(PolyStop::Large(limit)) => Err(Stop::Refused(Refused::Large(group, number, limit))),
+    }
+}
+
+/// The values of the items of a group.
+fn expand_items(alloc: Global, book: &mut Book, group: Group, items: &[Item]) -> Result<Vec<Poly>, Stop>
+    requires { All (λ item. IsExpression book.old.ranking.signature item) items.now }
+    ensures values { GivesAll (λ ps. ps.items) book.new result (items_answer (symbols_under book.old.ranking) group 0 items.now) }
+    ensures kept { OnOk result (IsKept book.old book.new) }
+{
+    let mut polys = Vec::new(alloc);
+    'items: for index in 0..items.len() {
+        let p = expand_numbered(book, group, index + 1, &items[index])?;
+        polys.push(p)?;
+    }
+    Ok(polys)
+}
+
+/// The number of terms in polynomials, up to the greatest number that a `usize` has.
+fn terms_of(book: &Book, polys: &[Poly]) -> usize
+    requires { LiveAll book.now polys.now }
+    ensures { result ≡ min (terms_of (polynomials book.now polys.now)) (2 ^ 64 - 1) }
+{
+    let mut terms = 0usize;
+    'polys: for p in polys {
+        terms = terms.saturating_add(term_count(book, *p));
+    }
+    terms
+}
+
+/// Puts polynomials together to a system, where it passes no limit: at most 256 members, and at
+/// most 65,536 terms.
+fn within_limits(book: &Book, equations: Vec<Poly>, inequations: Vec<Poly>) -> Result<System, Stop>
+    requires equations { LiveAll book.now equations.items }
+    requires inequations { LiveAll book.now inequations.items }
+    ensures { GivesSystem book.now result (within_limits
+        (polynomials book.now equations.items) (polynomials book.now inequations.items)) }
+{
+    if equations.len() > 256 || inequations.len() > 256 - equations.len() {
+        return Err(Stop::Refused(Refused::TooMany(Limit::Polynomials)));
+    }
+    let terms = terms_of(book, &equations).saturating_add(terms_of(book, &inequations));
+    if terms > 65_536 {
+        return Err(Stop::Refused(Refused::TooMany(Limit::Node)));
+    }
+    Ok(System {
+        equations,
+        inequations,
+    })
+}
+
+/// The system of a text: the equations are expanded first, and the items of each group in order.
+#[tactic(auto, unfolding(crate::specs::System::system_answer))]
+pub(crate) fn system(alloc: Global, book: &mut Book, tree: &SystemTree) -> Result<System, Stop>
+    requires ranking { book.old.ranking ≡ ranking_of (tree_of tree.now) }
+    requires expressions { HasExpressions (tree_of tree.now) }
+    ensures system { GivesSystem book.new result (system_answer (tree_of tree.now)) }
+    ensures kept { OnOk result (IsKept book.old book.new) }
+{
+    let equations = expand_items(alloc, book, Group::Equation, &tree.equations)?;
+    let inequations = expand_items(alloc, book, Group::Inequation, &tree.inequations)?;
+    let system = within_limits(book, equations, inequations)?;
+    Ok(system)
+}
+
+/// The word for a group.
+fn group_name(group: Group) -> &'static [u8]
+    ensures { result.now ≡ group_name group }
+{
+    match group {
+        Group::Equation => b"equation ",
+        Group::Inequation => b"inequation ",
+    }
+}
+
+/// The word for a limit.
+fn limit_name(limit: Limit) -> &'static [u8]
+    ensures { result.now ≡ limit_name limit }
+{
+    match limit {
+        Limit::Order => b"order",
+        Limit::Exponent => b"exponent",
+        Limit::Symbols => b"symbols",
+        Limit::Terms => b"terms",
+        Limit::Polynomials => b"polynomials",
+        Limit::Node => b"node",
+        Limit::Splits => b"splits",
+    }
+}
+
+/// Appends the word for a group, and a number.
+fn write_item(into: &mut Vec<u8>, group: Group, number: usize) -> Result<(), AllocError>
+    ensures { OnOk result (into.new.items ≡ into.old.items ++ group_name group ++ decimal number) }
+{
+    let mut buffer = Buffer::new();
+    into.extend_from_slice(group_name(group))?;
+    into.extend_from_slice(buffer.format(number).as_bytes())
+}
+
+/// The line that names what is refused.
+pub(crate) fn refused_line(alloc: Global, refused: Refused) -> Result<Vec<u8>, AllocError>
+    ensures { IfOk result (λ text. text.items ≡ refused_line refused) }
+{
+    let mut text = Vec::new(alloc);
+    match refused {
+        Refused::Wide(group, number) => {
+            write_item(&mut text, group, number)?;
+            text.extend_from_slice(b" wide")?;
+        }
+        Refused::Large(group, number, limit) => {
+            write_item(&mut text, group, number)?;
+            text.extend_from_slice(b" large ")?;
+            text.extend_from_slice(limit_name(limit))?;
+        }
+        Refused::TooMany(limit) => {
+            text.extend_from_slice(b"system large ")?;
+            text.extend_from_slice(limit_name(limit))?;
+        }
+    }
+    text.extend_from_slice(b"\n")?;
+    Ok(text)
+}
