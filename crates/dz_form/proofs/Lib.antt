@@ -1,0 +1,3 @@
+pub mod TextTokens
+pub mod SymbolTexts
+pub mod TextItems

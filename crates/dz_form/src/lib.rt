@@ -2,5 +2,7 @@
 #![tactic(auto)]
 
 mod expansion;
+mod laws;
 
 pub use expansion::expand;
+pub use laws::text_is_item;
