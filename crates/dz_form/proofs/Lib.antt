@@ -1,3 +1,4 @@
 pub mod TextTokens
 pub mod SymbolTexts
 pub mod TextItems
+pub mod TextsDiffer

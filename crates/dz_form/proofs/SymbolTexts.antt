@@ -14,13 +14,13 @@ use Rattle.dz_rank.specs.declared.symbols.Symbol.{Symbol}
 use Rattle.dz_rank.specs.declared.symbols.Symbol.TheVariants.{Independent, Derivative}
 use Rattle.dz_rank.specs.Symbols.{BelongsTo, IsOperatorOf, identity, total_order}
 use Rattle.dz_syntax.specs.declared.token.Token.{Token}
-use Rattle.dz_syntax.specs.declared.token.Token.TheVariants.{Name, OpenBracket}
+use Rattle.dz_syntax.specs.declared.token.Token.TheVariants.{Name, OpenBracket, Nothing}
 use Rattle.dz_syntax.specs.Tokens.{is_name_byte, skip_from, front, behind, bytes_of}
 use Rattle.dz_syntax.specs.Names.{Declared, IsDeclared, dependents, find, plain, signature_of, symbol_numbered}
 use Rattle.dz_syntax.specs.Atoms.{as_independent, independent_from, independent_at, raised, names_go_on, names_in, symbol_of, symbol_if, symbol_from, symbol_at}
 use Rattle.dz_syntax.proofs.Complete.{on_ok}
 use Rattle.dz_form.specs.Texts.{joined, copies, repeated, independents, derivations_text, is_identity, name_numbered, symbol_text}
-use Rattle.dz_form.proofs.TextTokens.{IsToken, begins, name_token, comma, open_bracket, close_bracket}
+use Rattle.dz_form.proofs.TextTokens.{IsToken, begins, name_token, comma, open_bracket, close_bracket, nothing}
 
 -- ---- texts with a mark between them
 
@@ -248,7 +248,7 @@ sum_zero (count ∷ counts) none =
 identity_from_sum : (n : ℕ) (o : Operator) → IsOperatorOf n o → sum o.counts ≡ 0 → o ≡ identity
 identity_from_sum n o is none = ap (λ (counts : List ℕ). record { counts = counts }) (sum_zero o.counts none ∙ ap (λ (k : ℕ). replicate k 0) is.size)
 
-identity_is : (n : ℕ) (o : Operator) → IsOperatorOf n o → is_identity o ≡ true → o ≡ identity
+pub identity_is : (n : ℕ) (o : Operator) → IsOperatorOf n o → is_identity o ≡ true → o ≡ identity
 identity_is n o is none = identity_from_sum n o is (grind (arith, nat_tests))
 
 -- ---- symbols
@@ -257,6 +257,10 @@ identity_is n o is none = identity_from_sum n o is (grind (arith, nat_tests))
 pub record Ends (rest : List ℕ) : Type 0 where
   pub apart : begins is_name_byte rest ≡ false
   pub no_bracket : front (skip_from false rest) ≡ OpenBracket → ⊥
+
+-- the end of the text
+pub ends_nil : Ends []
+ends_nil = record { apart = refl; no_bracket = λ e. let no : Nothing ≡ OpenBracket = sym nothing ∙ e in cc }
 
 -- a symbol without brackets
 no_brackets : (names : Declared) (text : List ℕ) (s : Symbol) (t : Token) → (t ≡ OpenBracket → ⊥) → symbol_of names text s t ≡ Ok (s, behind text)

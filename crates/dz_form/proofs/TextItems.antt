@@ -9,7 +9,7 @@ use Rattle.dz_algebra.specs.Polynomial.{Polynomial}
 use Rattle.dz_rank.specs.declared.symbols.Symbol.{Symbol}
 use Rattle.dz_syntax.specs.declared.expression.Op.{Op}
 use Rattle.dz_syntax.specs.declared.expression.Op.TheVariants as ops
-use Rattle.dz_syntax.specs.declared.token.Token.TheVariants.{OpenBracket, Caret, Star, Plus, Minus, Nothing}
+use Rattle.dz_syntax.specs.declared.token.Token.TheVariants.{OpenBracket, Caret, Star, Plus, Minus}
 use Rattle.dz_syntax.specs.Tokens.{is_name_byte, skip_from, front, behind, bytes_of}
 use Rattle.dz_syntax.specs.Names.{Declared, IsDeclared}
 use Rattle.dz_syntax.specs.Numbers.{number_from}
@@ -19,12 +19,9 @@ use Rattle.dz_syntax.specs.Items.{IsItem}
 use Rattle.dz_form.specs.Texts.{IsReadablePower, IsReadableTerm, IsWritable, symbol_text, power_text, powers_text, term_text, more_terms_text, polynomial_text}
 use Rattle.dz_form.specs.Steps.{power_steps, factor_steps, term_steps, more_terms_steps, polynomial_steps}
 use Rattle.dz_form.proofs.TextTokens.{begins, decimal_token, number_from-decimal, caret, star, plus, minus, nothing}
-use Rattle.dz_form.proofs.SymbolTexts.{Ends, behind_marks, joined-cons, symbol_read}
+use Rattle.dz_form.proofs.SymbolTexts.{Ends, ends_nil, behind_marks, joined-cons, symbol_read}
 
 -- ---- where a symbol or a number ends
-
-ends_nil : Ends []
-ends_nil = record { apart = refl; no_bracket = λ e. let no : Nothing ≡ OpenBracket = sym nothing ∙ e in cc }
 
 ends_caret : (rest : List ℕ) → Ends (codes "^" ++ rest)
 ends_caret rest = record { apart = refl; no_bracket = λ e. let no : Caret ≡ OpenBracket = sym (caret rest).token ∙ e in cc }

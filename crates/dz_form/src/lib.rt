@@ -5,4 +5,4 @@ mod expansion;
 mod laws;
 
 pub use expansion::expand;
-pub use laws::text_is_item;
+pub use laws::{one_operator, one_symbol, text_is_item};
