@@ -1,6 +1,6 @@
 -- The texts of symbols are read as their symbols.
 use Rattle.std.proofs.Common.{◌≡◌, ℕ, zero, suc, ◌<◌, ◌≤◌, ◌+◌, ◌-◌, length, take, drop, replicate, get_or, map, sum, List, [], ◌∷◌, ◌++◌, Bool, true, false, Some, Ok, All, refl, sym, ap, subst, ◌∙◌, arith, append-nil, append_assoc}
-use Rattle.std.specs.Prelude.{cond, codes, ⊤, nat_lt, position, slice_set, slice_index}
+use Rattle.std.specs.Prelude.{cond, codes, ⊤, nat_lt, position}
 use Rattle.std.specs.Str.{bytes_eq}
 use Rattle.std.specs.List.{position_or_len}
 use Rattle.std.specs.Cmp.Lexicographic.{nat_list_eq_equiv}
@@ -35,7 +35,7 @@ joined-cons mark text (next ∷ more) = append_assoc text mark (joined mark (nex
 
 -- ---- what a name stands for
 
-position_is : (p : List ℕ → Bool) (xs : List (List ℕ)) (i : ℕ) → i < length xs → position_or_len p xs ≡ i → position p xs ≡ Some i
+pub position_is : {X : Type 0} (p : X → Bool) (xs : List X) (i : ℕ) → i < length xs → position_or_len p xs ≡ i → position p xs ≡ Some i
 position_is p xs i lt e = let within : nat_lt i (length xs) ≡ true = grind (arith, nat_tests) in rw (e, within) refl
 
 find-name : (names : Declared) (i : ℕ) → IsDeclared names → i < length names.all → find names (name_numbered names i) ≡ symbol_numbered names.independents (Some i)
@@ -46,12 +46,12 @@ find-name names i is lt =
     let here = position_or_len_is (λ n. bytes_eq name n) names.all i [] (omega arith) earlier (λ _. nat_list_eq_equiv.refl name) in
     ap (symbol_numbered names.independents) (position_is (λ n. bytes_eq name n) names.all i lt here)
 
-find-independent : (names : Declared) (i : ℕ) → IsDeclared names → i < names.independents → find names (name_numbered names i) ≡ Some (Independent i)
+pub find-independent : (names : Declared) (i : ℕ) → IsDeclared names → i < names.independents → find names (name_numbered names i) ≡ Some (Independent i)
 find-independent names i is lt =
     let below : nat_lt i names.independents ≡ true = grind (arith, nat_tests) in
     find-name names i is (omega (arith, is.independents_are)) ∙ rw below refl
 
-find-dependent : (names : Declared) (u : ℕ) → IsDeclared names → u < dependents names → find names (name_numbered names (names.independents + u)) ≡ Some (plain u)
+pub find-dependent : (names : Declared) (u : ℕ) → IsDeclared names → u < dependents names → find names (name_numbered names (names.independents + u)) ≡ Some (plain u)
 find-dependent names u is lt =
     let above : nat_lt (names.independents + u) names.independents ≡ false = grind (arith, nat_tests) in
     let number : names.independents + u - names.independents ≡ u = omega arith in
@@ -64,12 +64,12 @@ declared_token names i rest is lt stop = name_token (name_numbered names i) rest
 -- ---- names in brackets
 
 -- an operator with more derivations
-abbrev raised_by : Operator → List ℕ → Operator
+abbrev pub raised_by : Operator → List ℕ → Operator
 raised_by o [] = o
 raised_by o (i ∷ is) = raised_by (raised o i) is
 
 -- every number of a list is below a bound
-abbrev AreBelow : ℕ → List ℕ → Type 0
+abbrev pub AreBelow : ℕ → List ℕ → Type 0
 AreBelow n [] = ⊤
 AreBelow n (i ∷ is) = (i < n) × AreBelow n is
 
@@ -120,19 +120,19 @@ names_read names (suc left) o i (j ∷ is) rest d fits below =
 -- ---- the derivations of an operator
 
 -- a number, so often, before other numbers
-abbrev times : ℕ → ℕ → List ℕ → List ℕ
+abbrev pub times : ℕ → ℕ → List ℕ → List ℕ
 times i zero is = is
 times i (suc count) is = i ∷ times i count is
 
 -- the numbers of the independents, from k on, each as often as its exponent says
-abbrev indices : ℕ → List ℕ → List ℕ
+abbrev pub indices : ℕ → List ℕ → List ℕ
 indices k [] = []
 indices k (count ∷ counts) = times k count (indices (suc k) counts)
 
-abbrev Zeros : List ℕ → Type 0
+abbrev pub Zeros : List ℕ → Type 0
 Zeros ks = All (λ k. k ≡ 0) ks
 
-indices-zeros : (k : ℕ) (counts : List ℕ) → Zeros counts → indices k counts ≡ []
+pub indices-zeros : (k : ℕ) (counts : List ℕ) → Zeros counts → indices k counts ≡ []
 indices-zeros k [] z = refl
 indices-zeros k (c ∷ counts) z = rw (All-head (λ k. k ≡ 0) c counts z) (indices-zeros (suc k) counts (All-tail (λ k. k ≡ 0) c counts z))
 
@@ -153,7 +153,7 @@ length-times : (i count : ℕ) (is : List ℕ) → length (times i count is) ≡
 length-times i zero is = omega arith
 length-times i (suc count) is = omega (arith, length-times i count is)
 
-length-indices : (k : ℕ) (counts : List ℕ) → length (indices k counts) ≡ sum counts
+pub length-indices : (k : ℕ) (counts : List ℕ) → length (indices k counts) ≡ sum counts
 length-indices k [] = refl
 length-indices k (count ∷ counts) = omega (arith, length-times k count (indices (suc k) counts), length-indices (suc k) counts, sum_by-cons (λ x. x) count counts)
 
@@ -161,20 +161,21 @@ times_below : (n i count : ℕ) (is : List ℕ) → i < n → AreBelow n is → 
 times_below n i zero is lt below = below
 times_below n i (suc count) is lt below = (lt, times_below n i count is lt below)
 
-indices_below : (m k : ℕ) (counts : List ℕ) → Zeros (drop m counts) → AreBelow (k + m) (indices k counts)
+pub indices_below : (m k : ℕ) (counts : List ℕ) → Zeros (drop m counts) → AreBelow (k + m) (indices k counts)
 indices_below zero k counts z = rw (indices-zeros k counts z) tt
 indices_below (suc m) k [] z = tt
 indices_below (suc m) k (count ∷ counts) z =
     let sums : suc k + m ≡ k + suc m = omega arith in
     times_below (k + suc m) k count (indices (suc k) counts) (omega arith) (subst (λ (n : ℕ). AreBelow n (indices (suc k) counts)) sums (indices_below m (suc k) counts z))
 
+pub raised_at : (done : List ℕ) (k x : ℕ) (more : List ℕ) → length done ≡ k → raised (record { counts = done ++ x ∷ more }) k ≡ record { counts = done ++ (x + 1) ∷ more }
+raised_at done k x more e = ap (λ (counts : List ℕ). record { counts = counts }) (rw (get_or_at done x more 0 k e) (set_at done x more (x + 1) k e))
+
 raised_by-times : (done : List ℕ) (k count x : ℕ) (more is : List ℕ) → length done ≡ k
     → raised_by (record { counts = done ++ x ∷ more }) (times k count is) ≡ raised_by (record { counts = done ++ (x + count) ∷ more }) is
 raised_by-times done k zero x more is e = ap (λ (y : ℕ). raised_by (record { counts = done ++ y ∷ more }) is) (omega arith)
 raised_by-times done k (suc count) x more is e =
-    let one : slice_set (done ++ x ∷ more) k (slice_index (done ++ x ∷ more) k + 1) ≡ done ++ (x + 1) ∷ more =
-    rw (get_or_at done x more 0 k e) (set_at done x more (x + 1) k e) in
-    ap (λ (counts : List ℕ). raised_by (record { counts = counts }) (times k count is)) one
+    ap (λ (o : Operator). raised_by o (times k count is)) (raised_at done k x more e)
     ∙ raised_by-times done k count (x + 1) more is e
     ∙ ap (λ (y : ℕ). raised_by (record { counts = done ++ y ∷ more }) is) (omega arith)
 
@@ -191,12 +192,12 @@ raised_by-indices done k (count ∷ counts) e =
     ∙ ap (λ (all : List ℕ). record { counts = all }) (append_assoc done (count ∷ []) counts)
 
 -- a list with an element has a first one
-first_of : (xs : List ℕ) → 0 < length xs → (x : ℕ) × (more : List ℕ) × (xs ≡ x ∷ more)
+pub first_of : (xs : List ℕ) → 0 < length xs → (x : ℕ) × (more : List ℕ) × (xs ≡ x ∷ more)
 first_of [] some = absurd (omega arith)
 first_of (x ∷ more) some = (x, more, refl)
 
 -- the names in the text of an operator
-repeated-names : (names : Declared) (o : Operator) → IsDeclared names → IsOperatorOf names.independents o → repeated (independents names) o.counts ≡ map (name_numbered names) (indices 0 o.counts)
+pub repeated-names : (names : Declared) (o : Operator) → IsDeclared names → IsOperatorOf names.independents o → repeated (independents names) o.counts ≡ map (name_numbered names) (indices 0 o.counts)
 repeated-names names o d is =
     let size : length (take names.independents names.all) ≡ names.independents = length-take-le names.independents names.all d.independents_are in
     let zeros : Zeros (drop (length (take names.independents names.all)) o.counts) = rw size is.zeros in
@@ -212,7 +213,7 @@ derivations_text-cons names o i more rest d is e =
     rw (repeated-names names o d is, e) (joined-cons (codes ",") (name_numbered names i) others) in
     ap (λ (text : List ℕ). text ++ (codes "]" ++ rest)) texts ∙ append_assoc (name_numbered names i) (behind_marks (codes ",") others) (codes "]" ++ rest)
 
-operator_is : (o : Operator) (is : List ℕ) (n : ℕ) → IsOperatorOf n o → indices 0 o.counts ≡ is → raised_by identity is ≡ o
+pub operator_is : (o : Operator) (is : List ℕ) (n : ℕ) → IsOperatorOf n o → indices 0 o.counts ≡ is → raised_by identity is ≡ o
 operator_is o is n fits e =
     let four : identity ≡ record { counts = replicate (length o.counts) 0 } = rw fits.size refl in
     rw (four, ← e) (raised_by-indices [] 0 o.counts refl)

@@ -26,7 +26,7 @@ front_len-stop : (test : ℕ → Bool) (rest : List ℕ) → begins test rest �
 front_len-stop test [] stop = refl
 front_len-stop test (b ∷ rest) stop = rw stop refl
 
-both_true : (a b : Bool) → (a && b) ≡ true → (a ≡ true) × (b ≡ true)
+pub both_true : (a b : Bool) → (a && b) ≡ true → (a ≡ true) × (b ≡ true)
 both_true true b e = (refl, e)
 both_true false b e = absurd cc
 

@@ -3,6 +3,8 @@
 
 mod expansion;
 mod laws;
+mod read;
 
 pub use expansion::expand;
 pub use laws::{one_operator, one_symbol, text_is_item};
+pub use read::{read_operator, read_symbol};
