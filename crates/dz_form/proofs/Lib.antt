@@ -3,3 +3,10 @@ pub mod Keeping
 pub mod Times
 pub mod Negatives
 pub mod Folding
+pub mod TextTokens
+pub mod SymbolTexts
+pub mod TextItems
+pub mod TextsDiffer
+pub mod CutTexts
+pub mod OperatorsRead
+pub mod SymbolsRead

@@ -1,12 +1,14 @@
 -- Canonical texts (this project): one text for each symbol, operator and polynomial.
-use Rattle.std.specs.Prelude.{ℕ, zero, suc, ◌+◌, ◌==◌, Bool, cond, List, [], ◌∷◌, ◌++◌, take, map, sum, pos, int_lt, unsigned_abs, codes, slice_index_or}
+use Rattle.std.specs.Prelude.{ℕ, zero, suc, ◌+◌, ◌==◌, ◌≤◌, Bool, All, cond, ℤ, List, [], ◌∷◌, ◌++◌, take, map, sum, pos, int_lt, unsigned_abs, codes, slice_index_or}
 use Rattle.std.specs.Fmt.{decimal}
 use Rattle.dz_algebra.specs.Monomial.{Monomial}
 use Rattle.dz_algebra.specs.Polynomial.{Polynomial}
 use Rattle.dz_rank.specs.declared.symbols.Operator.{Operator}
 use Rattle.dz_rank.specs.declared.symbols.Symbol.{Symbol}
 use Rattle.dz_rank.specs.declared.symbols.Symbol.TheVariants.{Independent, Derivative}
-use Rattle.dz_syntax.specs.Names.{Declared}
+use Rattle.dz_rank.specs.Symbols.{BelongsTo, total_order}
+use Rattle.dz_syntax.specs.Expressions.{most_exponent, most_literal}
+use Rattle.dz_syntax.specs.Names.{Declared, signature_of}
 
 -- texts with a mark between them
 abbrev pub joined : List ℕ → List (List ℕ) → List ℕ
@@ -80,3 +82,18 @@ unfoldable pub polynomial_text : Declared → Polynomial Symbol → List ℕ
 polynomial_text names [] = codes "0"
 polynomial_text names (t ∷ p) =
     cond (int_lt t.1 (pos 0)) (codes "-") [] ++ term_text names t.0 (unsigned_abs t.1) ++ more_terms_text names p
+
+-- a power may be read: its symbol is one of the names, of total order at most 60, and the exponent is one that may be read
+pub record IsReadablePower (names : Declared) (p : Symbol × ℕ) : Type 0 where
+  pub symbol : BelongsTo (signature_of names) p.0
+  pub order : total_order p.0 ≤ 60
+  pub exponent : p.1 ≤ most_exponent
+
+-- a term may be read: its powers, and the absolute value of its coefficient
+pub record IsReadableTerm (names : Declared) (t : Monomial Symbol × ℤ) : Type 0 where
+  pub powers : All (λ p. IsReadablePower names p) t.0
+  pub coefficient : unsigned_abs t.1 ≤ most_literal
+
+-- a polynomial has a canonical text that may be read
+abbrev pub IsWritable : Declared → Polynomial Symbol → Type 0
+IsWritable names p = All (λ t. IsReadableTerm names t) p

@@ -2,5 +2,9 @@
 #![tactic(auto)]
 
 mod expansion;
+mod laws;
+mod read;
 
 pub use expansion::expand;
+pub use laws::{one_operator, one_symbol, text_is_item};
+pub use read::{read_operator, read_symbol};

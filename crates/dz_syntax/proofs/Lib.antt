@@ -19,3 +19,4 @@ pub mod SystemReadings
 pub mod Postfix
 pub mod SymbolsFit
 pub mod SystemExpressions
+pub mod NameTokens

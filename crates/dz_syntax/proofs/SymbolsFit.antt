@@ -61,7 +61,7 @@ numbered_fits names None s within e = absurd cc
 numbered_fits names (Some i) s within e =
     chosen_fits names i (nat_lt i names.independents) s (within i refl) refl (some_is _ s e)
 
-find_fits : (names : Declared) (name : List ℕ) (s : Symbol) → find names name ≡ Some s → Fits names s
+pub find_fits : (names : Declared) (name : List ℕ) (s : Symbol) → find names name ≡ Some s → Fits names s
 unfolding find
 find_fits names name s e =
     numbered_fits names (position (λ n. bytes_eq name n) names.all) s (λ i at. (position-Some (λ n. bytes_eq name n) names.all i [] at).0) e
@@ -82,9 +82,9 @@ unfolding independent_at
 independent_fits names text i e = independent_from_fits names (front text) text i e
 
 -- an operator of the names, to which so many derivations may still come
-record MayGrow (names : Declared) (left : ℕ) (o : Operator) : Type 0 where
-  is : IsOperatorOf names.independents o
-  total : sum o.counts + left ≤ 60
+pub record MayGrow (names : Declared) (left : ℕ) (o : Operator) : Type 0 where
+  pub is : IsOperatorOf names.independents o
+  pub total : sum o.counts + left ≤ 60
 
 sum-raised : (ks : List ℕ) (i : ℕ) → sum (slice_set ks i (slice_index ks i + 1)) ≤ sum ks + 1
 sum-raised [] i = omega arith
@@ -92,7 +92,7 @@ sum-raised (k ∷ ks) zero = omega (arith, sum_by-cons (λ x. x) k ks, sum_by-co
 sum-raised (k ∷ ks) (suc i) =
     omega (arith, sum_by-cons (λ x. x) k ks, sum_by-cons (λ x. x) k (slice_set ks i (slice_index ks i + 1)), sum-raised ks i)
 
-raised_may_grow : (names : Declared) (left : ℕ) (o : Operator) (i : ℕ) → i < names.independents → MayGrow names (suc left) o → MayGrow names left (raised o i)
+pub raised_may_grow : (names : Declared) (left : ℕ) (o : Operator) (i : ℕ) → i < names.independents → MayGrow names (suc left) o → MayGrow names left (raised o i)
 raised_may_grow names left o i lt m =
     record {
       is = record {
@@ -101,6 +101,9 @@ raised_may_grow names left o i lt m =
       };
       total = omega (arith, sum-raised o.counts i, m.total);
     }
+
+pub identity_may_grow : (names : Declared) → MayGrow names 60 identity
+identity_may_grow names = record { is = record { size = refl; zeros = zeros_drop names.independents (0 ∷ 0 ∷ 0 ∷ 0 ∷ []) four_zeros }; total = omega arith }
 
 abbrev ReadOperator : Type 0
 ReadOperator = Operator × List ℕ
@@ -132,8 +135,7 @@ symbol_of_fits : (names : Declared) (text : List ℕ) (s : Symbol) (t : Token) (
 symbol_of_fits names text (Independent i) OpenBracket x f e = absurd cc
 symbol_of_fits names text (Derivative d o) OpenBracket x f e =
     let b = bind_ok (names_in 60 names identity (behind (behind text))) (λ o. Ok (Derivative d o.0, o.1)) x e in
-    let start : MayGrow names 60 identity = record { is = record { size = refl; zeros = zeros_drop names.independents (0 ∷ 0 ∷ 0 ∷ 0 ∷ []) four_zeros }; total = omega arith } in
-    let o = names_in_fits 60 names identity (behind (behind text)) b.0 start b.1 in
+    let o = names_in_fits 60 names identity (behind (behind text)) b.0 (identity_may_grow names) b.1 in
     subst (λ (x : ReadSymbol). Fits names x.0) (ok_is (Derivative d b.0.0, b.0.1) x b.2) ((f.0.0, o.0), o.1)
 symbol_of_fits names text s t x f e = subst (λ (x : ReadSymbol). Fits names x.0) (ok_is (s, behind text) x e) f
 

@@ -1,11 +1,13 @@
 -- The names of a system.
-use Rattle.std.specs.Prelude.{ℕ, ◌+◌, ◌-◌, ◌≤◌, ◌<◌, List, [], ◌∷◌, ◌++◌, length, Option, Some, None, position, Bool, ◌≡◌, nat_lt, if◌then◌else◌}
+use Rattle.std.specs.Prelude.{ℕ, ◌+◌, ◌-◌, ◌≤◌, ◌<◌, List, [], ◌∷◌, ◌++◌, length, Option, Some, None, position, Bool, true, false, All, ◌≡◌, nat_lt, if◌then◌else◌}
 use Rattle.std.specs.Str.{bytes_eq}
-use Rattle.std.specs.List.{list_any}
+use Rattle.std.specs.List.{list_any, list_all, IsDistinct}
 use Rattle.dz_rank.specs.Symbols.{identity}
 use Rattle.dz_rank.specs.declared.rankings.Signature.{Signature}
 use Rattle.dz_syntax.specs.declared.names.Group.TheVariants.{Independents, Dependents}
 use Rattle.dz_syntax.specs.declared.names.Group.{Group}
+use Rattle.dz_syntax.specs.declared.token.Token.TheVariants.{Name}
+use Rattle.dz_syntax.specs.Tokens.{is_letter, is_name_byte, word_or_name}
 use Rattle.dz_rank.specs.declared.symbols.Symbol.{Symbol}
 use Rattle.dz_rank.specs.declared.symbols.Symbol.TheVariants.{Independent, Derivative}
 
@@ -14,11 +16,28 @@ pub record Declared : Type 0 where
   pub all : List (List ℕ)
   pub independents : ℕ
 
--- at most four independents, and at most sixteen dependents behind them
+-- whether a text begins with a letter or _
+abbrev pub begins_with_letter : List ℕ → Bool
+begins_with_letter [] = false
+begins_with_letter (b ∷ rest) = is_letter b
+
+-- a word that is not reserved
+unfoldable pub IsUnreserved : List ℕ → Type 0
+IsUnreserved word = word_or_name word ≡ Name
+
+-- a name begins with a letter or _, has letters, _ and digits alone, and is no reserved word
+pub record IsName (name : List ℕ) : Type 0 where
+  pub first : begins_with_letter name ≡ true
+  pub bytes : list_all is_name_byte name ≡ true
+  pub unreserved : IsUnreserved name
+
+-- at most four independents, and at most sixteen dependents behind them, all with different names
 pub record IsDeclared (names : Declared) : Type 0 where
   pub independents_fit : names.independents ≤ 4
   pub independents_are : names.independents ≤ length names.all
   pub dependents_fit : length names.all ≤ names.independents + 16
+  pub are_names : All (λ name. IsName name) names.all
+  pub distinct : IsDistinct bytes_eq names.all
 
 -- a dependent without derivation
 abbrev pub plain : ℕ → Symbol

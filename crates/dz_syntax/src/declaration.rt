@@ -2,7 +2,7 @@
 
 ghost use Rattle.std.specs.Prelude.{◌≡◌, ◌≤◌, length, IfOk, false};
 ghost use Rattle.dz_syntax.specs.Faults.{Gives};
-ghost use Rattle.dz_syntax.specs.Names.{HasRoom, known};
+ghost use Rattle.dz_syntax.specs.Names.{HasRoom, IsName, known};
 ghost use Rattle.dz_syntax.specs.Declarations.{new_name, declarations};
 
 use crate::fault::{Stop, SyntaxKind, fault_at, unexpected};
@@ -14,6 +14,7 @@ use std::alloc::Global;
 #[tactic(auto, unfolding(crate::specs::Declarations::new_name))]
 fn new_name<'a>(names: &Names, text: &'a [u8]) -> Result<&'a [u8], Stop>
     ensures read { Gives (λ n. n.now) result (new_name names.now text.now) }
+    ensures name { IfOk result (λ n. IsName n.now) }
     ensures new { IfOk result (λ n. known names.now n.now ≡ false) }
 {
     match next(text) {

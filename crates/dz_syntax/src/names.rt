@@ -5,8 +5,8 @@ ghost use Rattle.std.specs.Prelude.{OnErr, OnOk, Some, None, true, false, is_som
 ghost use Rattle.std.specs.Prelude.{slice_get};
 ghost use Rattle.std.specs.Str.{bytes_eq};
 ghost use Rattle.std.specs.List.{list_any};
-ghost use Rattle.dz_syntax.specs.Names.{Declared, FitsSymbol, HasRoom, declared, dependents, find};
-ghost use Rattle.dz_syntax.specs.Names.{known, no_names, room, signature_of};
+ghost use Rattle.dz_syntax.specs.Names.{Declared, FitsSymbol, HasRoom, IsDeclared, IsName, declared};
+ghost use Rattle.dz_syntax.specs.Names.{dependents, find, known, no_names, room, signature_of};
 ghost use Rattle.dz_syntax.specs.declared.names.Group.TheVariants.{Dependents};
 
 use dz_rank::{Operator, Signature, Symbol};
@@ -105,6 +105,13 @@ impl Names {
         }
     }
 
+    /// What is true of all names, for contracts: the call does nothing when it runs.
+    pub fn opened(&self)
+        ensures { IsDeclared self.now }
+    {
+        let _ = &self.set;
+    }
+
     /// How many dependents are declared.
     pub(crate) fn dependents(&self) -> u8
         ensures value { result ≡ dependents self.now }
@@ -180,6 +187,7 @@ impl Names {
         group: Group,
         name: &[u8],
     ) -> Result<(), AllocError>
+        requires name { IsName name.now }
         requires new { known self.old name.now ≡ false }
         requires room { HasRoom group 1 self.old }
         ensures ok { OnOk result (self.new ≡ declared group self.old name.now) }
