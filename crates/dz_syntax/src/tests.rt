@@ -4,13 +4,199 @@ use crate::endings::Form;
 use crate::expression::Op;
 use crate::fault::{SyntaxFault, SyntaxKind};
 use crate::item::{Item, read_item};
-use crate::system::read_system;
+use crate::names::Names;
+use crate::system::{SystemTree, read_system};
+use dz_int::Frac;
 use dz_rank::{Kind, Operator, Symbol};
 use std::alloc::{AllocError, Global};
 use std::test::*;
 
 /// Independents x and y, dependents v and u, in this order.
 const TWO: &[u8] = b"derivations x, y; ranking grlexA [v, u]; equations; inequations; end";
+
+const X: Op = Op::Symbol(Symbol::Independent(0));
+
+const V: Op = Op::Symbol(Symbol::Derivative {
+    dependent: 0,
+    operator: Operator { counts: [0; 4] },
+});
+
+const U: Op = Op::Symbol(Symbol::Derivative {
+    dependent: 1,
+    operator: Operator { counts: [0; 4] },
+});
+
+const U_XYY: Op = Op::Symbol(Symbol::Derivative {
+    dependent: 1,
+    operator: Operator {
+        counts: [1, 2, 0, 0],
+    },
+});
+
+const U_60: Op = Op::Symbol(Symbol::Derivative {
+    dependent: 1,
+    operator: Operator {
+        counts: [60, 0, 0, 0],
+    },
+});
+
+/// Expressions over these names, and their steps.
+const ITEMS: [(&[u8], &[Op]); 4] = [
+    (b"- u*u + v", &[U, U, Op::Mul, Op::Negate, V, Op::Add]),
+    (b"u # -\r-\n - v", &[U, V, Op::Sub]),
+    (
+        b"-(x - u[y,x,y])^0065535",
+        &[X, U_XYY, Op::Sub, Op::Power(65_535), Op::Negate],
+    ),
+    (
+        b"170141183460469231731687303715884105727",
+        &[Op::Number(170_141_183_460_469_231_731_687_303_715_884_105_727)],
+    ),
+];
+
+/// Texts that are no expression over these names, and where and why.
+const ITEM_FAULTS: [(&[u8], usize, SyntaxKind); 18] = [
+    (b"u + $", 4, SyntaxKind::BadByte),
+    (b"u !v", 2, SyntaxKind::BadByte),
+    (b"u\x0b", 1, SyntaxKind::BadByte),
+    (b"", 0, SyntaxKind::Unexpected),
+    (b"u + ", 4, SyntaxKind::Unexpected),
+    (b"u = v", 2, SyntaxKind::Unexpected),
+    (b"2 u", 2, SyntaxKind::Unexpected),
+    (b"end", 0, SyntaxKind::Unexpected),
+    (b"lexA", 0, SyntaxKind::Unexpected),
+    (b"u[]", 2, SyntaxKind::Unexpected),
+    (b"u[x", 3, SyntaxKind::Unexpected),
+    (b"u^-1", 2, SyntaxKind::Unexpected),
+    (b"+ - u", 2, SyntaxKind::Unexpected),
+    (b"lexB", 0, SyntaxKind::Unknown),
+    (b"x[x]", 0, SyntaxKind::Unknown),
+    (b"u[x,v]", 4, SyntaxKind::Unknown),
+    (b"u^65536", 2, SyntaxKind::Exponent),
+    (
+        b"u-170141183460469231731687303715884105728",
+        2,
+        SyntaxKind::Literal,
+    ),
+];
+
+/// Texts that are no system in a form, and where and why.
+const SYSTEM_FAULTS: [(Form, &[u8], usize, SyntaxKind); 13] = [
+    (Form::Plain, b"derivations end;", 12, SyntaxKind::Unexpected),
+    (
+        Form::Plain,
+        b"derivations a,b,c,d,a;",
+        20,
+        SyntaxKind::Twice,
+    ),
+    (
+        Form::Plain,
+        b"derivations a,b,c,d,e;",
+        20,
+        SyntaxKind::Names,
+    ),
+    (
+        Form::Plain,
+        b"derivations x;ranking lexA[x];",
+        27,
+        SyntaxKind::Twice,
+    ),
+    (
+        Form::Plain,
+        b"derivations;ranking lexA[a,b,c,d]lexA[e,f,g,h,i,j,k,l,m,n,o,p,q];",
+        62,
+        SyntaxKind::Names,
+    ),
+    (
+        Form::Plain,
+        b"derivations;ranking u;",
+        20,
+        SyntaxKind::Unexpected,
+    ),
+    (
+        Form::Plain,
+        b"derivations;ranking lexA[u];equations u!=1;",
+        39,
+        SyntaxKind::Unexpected,
+    ),
+    (
+        Form::Plain,
+        b"derivations;ranking lexA[u];equations;inequations u=1;",
+        51,
+        SyntaxKind::Unexpected,
+    ),
+    (
+        Form::Plain,
+        b"derivations;ranking;equations;inequations;end;",
+        45,
+        SyntaxKind::Unexpected,
+    ),
+    (
+        Form::Document,
+        b"derivations;ranking;equations;inequations;end \n",
+        45,
+        SyntaxKind::Unexpected,
+    ),
+    (
+        Form::Document,
+        b"derivations;ranking;equations;inequations;end\x01",
+        45,
+        SyntaxKind::Unexpected,
+    ),
+    (
+        Form::Document,
+        b"derivations;ranking;equations;inequations;end",
+        45,
+        SyntaxKind::Unexpected,
+    ),
+    (
+        Form::Document,
+        b"derivations;ranking;equations;inequations;endx",
+        42,
+        SyntaxKind::Unexpected,
+    ),
+];
+
+/// A system with an independent x and a dependent u, up to its values.
+const VALUED: &[u8] = b"derivations x;ranking lexA[u];equations;inequations;values ";
+
+/// Values of this system, and where and why they are none.
+const VALUE_FAULTS: [(&[u8], usize, SyntaxKind); 6] = [
+    (b"u=1/0;", 63, SyntaxKind::Denominator),
+    (b"u=1,x=2,u$", 67, SyntaxKind::Twice),
+    (b"u=1,u[x]=2,u[x]=3;", 70, SyntaxKind::Twice),
+    (b"u=1,u[$", 65, SyntaxKind::BadByte),
+    (b"u=+1;", 61, SyntaxKind::Unexpected),
+    (
+        b"u=1/170141183460469231731687303715884105728;",
+        63,
+        SyntaxKind::Literal,
+    ),
+];
+
+/// A system up to its last word.
+const SYSTEM: &[u8] = b"derivations t, s; # time and space
+        ranking degrevB [z, _a1] lexA [y];
+        equations z[t] = y, _a1; inequations y[s,t] != 0; ";
+
+const Y: Symbol = Symbol::Derivative {
+    dependent: 2,
+    operator: Operator { counts: [0; 4] },
+};
+
+const Y_S: Symbol = Symbol::Derivative {
+    dependent: 2,
+    operator: Operator {
+        counts: [0, 1, 0, 0],
+    },
+};
+
+const Z_T: Symbol = Symbol::Derivative {
+    dependent: 0,
+    operator: Operator {
+        counts: [1, 0, 0, 0],
+    },
+};
 
 fn is_fault<T: Drop>(answer: Result<T, SyntaxFault>, place: usize, kind: SyntaxKind) -> bool {
     match answer {
@@ -19,18 +205,33 @@ fn is_fault<T: Drop>(answer: Result<T, SyntaxFault>, place: usize, kind: SyntaxK
     }
 }
 
-fn is_item(answer: Result<Item, SyntaxFault>, steps: &[Op]) -> bool {
-    match answer {
+/// Whether a text over the names of a system is read as an expression with these steps.
+fn is_item(alloc: Global, names: &Names, text: &[u8], steps: &[Op]) -> bool {
+    match read_item(alloc, names, text) {
         Ok(item) => item.steps() == steps,
         Err(_) => false,
     }
 }
 
-fn derivative(dependent: u8, counts: [u8; 4]) -> Symbol {
-    Symbol::Derivative {
-        dependent,
-        operator: Operator { counts },
-    }
+/// Whether a text over the names of a system has this fault.
+fn is_item_fault(
+    alloc: Global,
+    names: &Names,
+    text: &[u8],
+    place: usize,
+    kind: SyntaxKind,
+) -> bool {
+    is_fault(read_item(alloc, names, text), place, kind)
+}
+
+/// Whether a text in a form has this fault.
+fn is_system_fault(alloc: Global, text: &[u8], form: Form, place: usize, kind: SyntaxKind) -> bool {
+    is_fault(read_system(alloc, text, form), place, kind)
+}
+
+/// The tree of a text that is a system.
+fn tree_of_text(alloc: Global, text: &[u8], form: Form) -> Option<SystemTree> {
+    read_system(alloc, text, form).ok()
 }
 
 /// A text that begins with some bytes, goes on with as many copies of others, and ends.
@@ -49,244 +250,192 @@ fn repeated(
     Ok(text)
 }
 
-/// Whether a byte begins a token.
-fn begins_token(byte: u8) -> bool {
-    byte.is_ascii_alphanumeric() || b"_;,[]()+-*^=/".contains(&byte)
+/// The place and the kind of the fault of a text of one byte.
+fn fault_of_byte(byte: u8) -> (usize, SyntaxKind) {
+    if b" \t\r\n#".contains(&byte) {
+        return (1, SyntaxKind::Unexpected);
+    }
+    if byte.is_ascii_alphanumeric() || b"_;,[]()+-*^=/".contains(&byte) {
+        return (0, SyntaxKind::Unexpected);
+    }
+    (0, SyntaxKind::BadByte)
+}
+
+/// Whether the names are those that the system declares, in its order.
+fn are_named(names: &Names) -> bool {
+    let signature = names.signature();
+    signature.independents == 2
+        && signature.dependents == 3
+        && names.independent(1) == b"s".as_slice()
+        && names.dependent(1) == b"_a1".as_slice()
+}
+
+/// Whether the names stand for what the system declares them as.
+fn are_found(names: &Names) -> bool {
+    names.find(b"y") == Some(Y)
+        && names.find(b"t") == Some(Symbol::Independent(0))
+        && names.find(b"lexA").is_none()
+}
+
+/// Whether the blocks are those of the system.
+fn are_blocks(tree: &SystemTree) -> bool {
+    match tree.blocks.as_slice() {
+        [first, second] => {
+            first.kind == Kind::DegrevB
+                && first.dependents.as_slice() == [0, 1].as_slice()
+                && second.dependents.as_slice() == [2].as_slice()
+        }
+        _ => false,
+    }
+}
+
+/// Whether an item has these steps.
+fn has_steps(item: Option<&Item>, steps: &[Op]) -> bool {
+    match item {
+        Some(item) => item.steps() == steps,
+        None => false,
+    }
+}
+
+/// Whether a value is this symbol's, and this fraction.
+fn is_value(
+    value: Option<&(Symbol, Frac)>,
+    of: Symbol,
+    numerator: i128,
+    denominator: i128,
+) -> bool {
+    match value {
+        Some((symbol, fraction)) => {
+            *symbol == of
+                && fraction.numerator() == numerator
+                && fraction.denominator() == denominator
+        }
+        None => false,
+    }
 }
 
 #[test]
 fn expressions(rt: HostRuntime) -> Result<(), Fail> {
     let alloc = rt.alloc();
-    let tree = read_system(alloc, TWO, Form::Plain).ok().ok_or("names")?;
-    let names = &tree.names;
-    for (text, place, kind) in [
-        (b"u + $".as_slice(), 4, SyntaxKind::BadByte),
-        (b"u !v".as_slice(), 2, SyntaxKind::BadByte),
-        (b"u\x0b".as_slice(), 1, SyntaxKind::BadByte),
-        (b"".as_slice(), 0, SyntaxKind::Unexpected),
-        (b"u + ".as_slice(), 4, SyntaxKind::Unexpected),
-        (b"u = v".as_slice(), 2, SyntaxKind::Unexpected),
-        (b"2 u".as_slice(), 2, SyntaxKind::Unexpected),
-        (b"end".as_slice(), 0, SyntaxKind::Unexpected),
-        (b"lexA".as_slice(), 0, SyntaxKind::Unexpected),
-        (b"u[]".as_slice(), 2, SyntaxKind::Unexpected),
-        (b"u[x".as_slice(), 3, SyntaxKind::Unexpected),
-        (b"u^-1".as_slice(), 2, SyntaxKind::Unexpected),
-        (b"+ - u".as_slice(), 2, SyntaxKind::Unexpected),
-        (b"lexB".as_slice(), 0, SyntaxKind::Unknown),
-        (b"x[x]".as_slice(), 0, SyntaxKind::Unknown),
-        (b"u[x,v]".as_slice(), 4, SyntaxKind::Unknown),
-        (b"u^65536".as_slice(), 2, SyntaxKind::Exponent),
-        (
-            b"u-170141183460469231731687303715884105728".as_slice(),
-            2,
-            SyntaxKind::Literal,
-        ),
-    ] {
-        assert!(rt; is_fault(read_item(alloc, names, text), place, kind));
+    let tree = tree_of_text(alloc, TWO, Form::Plain).ok_or("names")?;
+    for (text, steps) in ITEMS {
+        assert!(rt; is_item(alloc, &tree.names, text, steps));
     }
-    let u = Op::Symbol(derivative(1, [0; 4]));
-    let v = Op::Symbol(derivative(0, [0; 4]));
-    assert!(rt;
-        is_item(
-            read_item(alloc, names, b"- u*u + v"),
-            &[u, u, Op::Mul, Op::Negate, v, Op::Add]
-        )
-    );
-    assert!(rt; is_item(read_item(alloc, names, b"u # -\r-\n - v"), &[u, v, Op::Sub]));
-    assert!(rt;
-        is_item(
-            read_item(alloc, names, b"-(x - u[y,x,y])^0065535"),
-            &[
-                Op::Symbol(Symbol::Independent(0)),
-                Op::Symbol(derivative(1, [1, 2, 0, 0])),
-                Op::Sub,
-                Op::Power(65_535),
-                Op::Negate,
-            ]
-        )
-    );
-    assert!(rt;
-        is_item(
-            read_item(alloc, names, b"170141183460469231731687303715884105727"),
-            &[Op::Number(170_141_183_460_469_231_731_687_303_715_884_105_727)]
-        )
-    );
-    assert!(rt;
-        is_item(
-            read_item(alloc, names, &repeated(alloc, b"u[x", 59, b",x", b"]")?),
-            &[Op::Symbol(derivative(1, [60, 0, 0, 0]))]
-        )
-    );
-    let orders = repeated(alloc, b"u[x", 60, b",x", b"]")?;
-    assert!(rt; is_fault(read_item(alloc, names, &orders), 122, SyntaxKind::Order));
-    let mut open = repeated(alloc, b"", 64, b"(", b"u")?;
-    let deep = repeated(alloc, b"(", 64, b"(", b"u")?;
-    assert!(rt; is_fault(read_item(alloc, names, &deep), 64, SyntaxKind::Deep));
-    open.extend_from_slice(&repeated(alloc, b"", 64, b")", b"")?)?;
-    assert!(rt; is_item(read_item(alloc, names, &open), &[u]));
-    let long = repeated(alloc, b"1", 500_000, b"+1", b"")?;
-    let sum = read_item(alloc, names, &long).ok().ok_or("a sum")?;
+    Ok(())
+}
+
+#[test]
+fn faults_of_expressions(rt: HostRuntime) -> Result<(), Fail> {
+    let alloc = rt.alloc();
+    let tree = tree_of_text(alloc, TWO, Form::Plain).ok_or("names")?;
+    for (text, place, kind) in ITEM_FAULTS {
+        assert!(rt; is_item_fault(alloc, &tree.names, text, place, kind));
+    }
+    Ok(())
+}
+
+#[test]
+fn sixty_names_in_brackets(rt: HostRuntime) -> Result<(), Fail> {
+    let alloc = rt.alloc();
+    let tree = tree_of_text(alloc, TWO, Form::Plain).ok_or("names")?;
+    let text = repeated(alloc, b"u[x", 59, b",x", b"]")?;
+    assert!(rt; is_item(alloc, &tree.names, &text, &[U_60]));
+    let text = repeated(alloc, b"u[x", 60, b",x", b"]")?;
+    assert!(rt; is_item_fault(alloc, &tree.names, &text, 122, SyntaxKind::Order));
+    Ok(())
+}
+
+#[test]
+fn sixty_four_parentheses(rt: HostRuntime) -> Result<(), Fail> {
+    let alloc = rt.alloc();
+    let tree = tree_of_text(alloc, TWO, Form::Plain).ok_or("names")?;
+    let open = repeated(alloc, b"", 64, b"(", b"u")?;
+    let text = repeated(alloc, &open, 64, b")", b"")?;
+    assert!(rt; is_item(alloc, &tree.names, &text, &[U]));
+    let text = repeated(alloc, b"(", 64, b"(", b"u")?;
+    assert!(rt; is_item_fault(alloc, &tree.names, &text, 64, SyntaxKind::Deep));
+    Ok(())
+}
+
+#[test]
+fn a_sum_of_a_million_bytes(rt: HostRuntime) -> Result<(), Fail> {
+    let alloc = rt.alloc();
+    let tree = tree_of_text(alloc, TWO, Form::Plain).ok_or("names")?;
+    let text = repeated(alloc, b"1", 500_000, b"+1", b"")?;
+    let sum = read_item(alloc, &tree.names, &text).ok().ok_or("a sum")?;
     assert!(rt; sum.steps().len() == 1_000_001);
     Ok(())
 }
 
 #[test]
-fn systems(rt: HostRuntime) -> Result<(), Fail> {
+fn faults_of_systems(rt: HostRuntime) -> Result<(), Fail> {
     let alloc = rt.alloc();
-    for (form, text, place, kind) in [
-        (
-            Form::Plain,
-            b"derivations end;".as_slice(),
-            12,
-            SyntaxKind::Unexpected,
-        ),
-        (
-            Form::Plain,
-            b"derivations a,b,c,d,a;".as_slice(),
-            20,
-            SyntaxKind::Twice,
-        ),
-        (
-            Form::Plain,
-            b"derivations a,b,c,d,e;".as_slice(),
-            20,
-            SyntaxKind::Names,
-        ),
-        (
-            Form::Plain,
-            b"derivations x;ranking lexA[x];".as_slice(),
-            27,
-            SyntaxKind::Twice,
-        ),
-        (
-            Form::Plain,
-            b"derivations;ranking lexA[a,b,c,d]lexA[e,f,g,h,i,j,k,l,m,n,o,p,q];".as_slice(),
-            62,
-            SyntaxKind::Names,
-        ),
-        (
-            Form::Plain,
-            b"derivations;ranking u;".as_slice(),
-            20,
-            SyntaxKind::Unexpected,
-        ),
-        (
-            Form::Plain,
-            b"derivations;ranking lexA[u];equations u!=1;".as_slice(),
-            39,
-            SyntaxKind::Unexpected,
-        ),
-        (
-            Form::Plain,
-            b"derivations;ranking lexA[u];equations;inequations u=1;".as_slice(),
-            51,
-            SyntaxKind::Unexpected,
-        ),
-        (
-            Form::Plain,
-            b"derivations;ranking;equations;inequations;end;".as_slice(),
-            45,
-            SyntaxKind::Unexpected,
-        ),
-        (
-            Form::Document,
-            b"derivations;ranking;equations;inequations;end \n".as_slice(),
-            45,
-            SyntaxKind::Unexpected,
-        ),
-        (
-            Form::Document,
-            b"derivations;ranking;equations;inequations;end\x01".as_slice(),
-            45,
-            SyntaxKind::Unexpected,
-        ),
-        (
-            Form::Document,
-            b"derivations;ranking;equations;inequations;end".as_slice(),
-            45,
-            SyntaxKind::Unexpected,
-        ),
-        (
-            Form::Document,
-            b"derivations;ranking;equations;inequations;endx".as_slice(),
-            42,
-            SyntaxKind::Unexpected,
-        ),
-    ] {
-        assert!(rt; is_fault(read_system(alloc, text, form), place, kind));
-    }
-    let before = b"derivations x;ranking lexA[u];equations;inequations;values ";
-    for (text, place, kind) in [
-        (b"u=1/0;".as_slice(), 63, SyntaxKind::Denominator),
-        (b"u=1,x=2,u$".as_slice(), 67, SyntaxKind::Twice),
-        (b"u=1,u[x]=2,u[x]=3;".as_slice(), 70, SyntaxKind::Twice),
-        (b"u=1,u[$".as_slice(), 65, SyntaxKind::BadByte),
-        (b"u=+1;".as_slice(), 61, SyntaxKind::Unexpected),
-        (
-            b"u=1/170141183460469231731687303715884105728;".as_slice(),
-            63,
-            SyntaxKind::Literal,
-        ),
-    ] {
-        let whole = repeated(alloc, before, 1, text, b"")?;
-        assert!(rt; is_fault(read_system(alloc, &whole, Form::Values), place, kind));
-    }
-    for byte in 0..=255u8 {
-        let bytes = [byte];
-        let answer = read_system(alloc, &bytes, Form::Plain);
-        if b" \t\r\n#".contains(&byte) {
-            assert!(rt; is_fault(answer, 1, SyntaxKind::Unexpected));
-        } else if begins_token(byte) {
-            assert!(rt; is_fault(answer, 0, SyntaxKind::Unexpected));
-        } else {
-            assert!(rt; is_fault(answer, 0, SyntaxKind::BadByte));
-        }
+    for (form, text, place, kind) in SYSTEM_FAULTS {
+        assert!(rt; is_system_fault(alloc, text, form, place, kind));
     }
     Ok(())
 }
 
 #[test]
-fn trees(rt: HostRuntime) -> Result<(), Fail> {
+fn faults_of_values(rt: HostRuntime) -> Result<(), Fail> {
     let alloc = rt.alloc();
-    let text = b"derivations t, s; # time and space
-        ranking degrevB [z, _a1] lexA [y];
-        equations z[t] = y, _a1; inequations y[s,t] != 0; ";
-    let plain = repeated(alloc, text, 1, b"end # all\n ", b"")?;
-    let tree = read_system(alloc, &plain, Form::Plain).ok().ok_or("plain")?;
+    for (text, place, kind) in VALUE_FAULTS {
+        let whole = repeated(alloc, VALUED, 1, text, b"")?;
+        assert!(rt; is_system_fault(alloc, &whole, Form::Values, place, kind));
+    }
+    Ok(())
+}
+
+#[test]
+fn faults_of_first_bytes(rt: HostRuntime) -> Result<(), Fail> {
+    let alloc = rt.alloc();
+    for byte in 0..=255u8 {
+        let (place, kind) = fault_of_byte(byte);
+        assert!(rt; is_system_fault(alloc, &[byte], Form::Plain, place, kind));
+    }
+    Ok(())
+}
+
+#[test]
+fn a_plain_tree(rt: HostRuntime) -> Result<(), Fail> {
+    let alloc = rt.alloc();
+    let text = repeated(alloc, SYSTEM, 1, b"end # all\n ", b"")?;
+    let tree = tree_of_text(alloc, &text, Form::Plain).ok_or("plain")?;
     assert!(rt; tree.signature.independents == 2 && tree.signature.dependents == 3);
-    assert!(rt;
-        tree.names.independent(1) == b"s".as_slice() && tree.names.dependent(1) == b"_a1".as_slice()
-    );
-    assert!(rt; tree.names.find(b"y") == Some(derivative(2, [0; 4])));
-    assert!(rt; tree.names.find(b"t") == Some(Symbol::Independent(0)));
-    assert!(rt; tree.names.find(b"lexA").is_none());
-    assert!(rt; tree.blocks.len() == 2 && tree.blocks[0].kind == Kind::DegrevB);
-    assert!(rt; tree.blocks[0].dependents.as_slice() == [0, 1].as_slice());
-    assert!(rt; tree.blocks[1].dependents.as_slice() == [2].as_slice());
+    assert!(rt; are_named(&tree.names) && are_found(&tree.names));
+    assert!(rt; are_blocks(&tree));
     assert!(rt; tree.equations.len() == 2 && tree.inequations.len() == 1);
-    let z = Op::Symbol(derivative(0, [1, 0, 0, 0]));
-    let y = Op::Symbol(derivative(2, [0; 4]));
-    assert!(rt; tree.equations[0].steps() == [z, y, Op::Sub].as_slice());
+    let steps = [Op::Symbol(Z_T), Op::Symbol(Y), Op::Sub];
+    assert!(rt; has_steps(tree.equations.first(), &steps));
     assert!(rt; tree.document == 0);
-    let questions = repeated(alloc, text, 1, b"questions y, 7; end", b"")?;
-    let tree = read_system(alloc, &questions, Form::Questions)
-        .ok()
-        .ok_or("questions")?;
+    Ok(())
+}
+
+#[test]
+fn a_tree_with_questions(rt: HostRuntime) -> Result<(), Fail> {
+    let alloc = rt.alloc();
+    let text = repeated(alloc, SYSTEM, 1, b"questions y, 7; end", b"")?;
+    let tree = tree_of_text(alloc, &text, Form::Questions).ok_or("questions")?;
     assert!(rt; tree.questions.len() == 2);
-    assert!(rt; tree.questions[1].steps() == [Op::Number(7)].as_slice());
-    let values = repeated(alloc, text, 1, b"values y[s] = -6/4, t = 007; end", b"")?;
-    let tree = read_system(alloc, &values, Form::Values)
-        .ok()
-        .ok_or("values")?;
+    assert!(rt; has_steps(tree.questions.get(1), &[Op::Number(7)]));
+    Ok(())
+}
+
+#[test]
+fn a_tree_with_values(rt: HostRuntime) -> Result<(), Fail> {
+    let alloc = rt.alloc();
+    let text = repeated(alloc, SYSTEM, 1, b"values y[s] = -6/4, t = 007; end", b"")?;
+    let tree = tree_of_text(alloc, &text, Form::Values).ok_or("values")?;
     assert!(rt; tree.values.len() == 2);
-    let (symbol, fraction) = tree.values[0];
-    assert!(rt; symbol == derivative(2, [0, 1, 0, 0]));
-    assert!(rt; fraction.numerator() == -3 && fraction.denominator() == 2);
-    let document = repeated(alloc, text, 1, b"end\n", b"any \xff")?;
-    let tree = read_system(alloc, &document, Form::Document)
-        .ok()
-        .ok_or("document")?;
-    assert!(rt; tree.document + 5 == document.len());
+    assert!(rt; is_value(tree.values.first(), Y_S, -3, 2));
+    Ok(())
+}
+
+#[test]
+fn a_tree_with_a_document(rt: HostRuntime) -> Result<(), Fail> {
+    let alloc = rt.alloc();
+    let text = repeated(alloc, SYSTEM, 1, b"end\n", b"any \xff")?;
+    let tree = tree_of_text(alloc, &text, Form::Document).ok_or("document")?;
+    assert!(rt; tree.document.checked_add(5) == Some(text.len()));
     Ok(())
 }
