@@ -51,7 +51,7 @@ fn row_cells(
         × (has_high_exponent (degrees (ranking_cmp ranking.now)
         (term_times (ranking_cmp ranking.now) term.now.0 term.now.1 q.now)) ≡ true))) }
 {
-    let mut cells = VecDeque::new(alloc);
+    let mut cells = VecDeque::with_capacity(alloc, q.len())?;
     for other in q {
         let powers = multiply(alloc, ranking, term.powers(), other.powers())?;
         cells.push_back(product_cell(powers, term, other))?;
