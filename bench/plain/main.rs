@@ -13,14 +13,9 @@ enum Symbol {
     Derivative { dependent: u8, counts: [u8; 4] },
 }
 
-impl Symbol {
-    /// The total order of a derivative, and 0 for an independent.
-    fn order(self) -> u32 {
-        match self {
-            Symbol::Independent(_) => 0,
-            Symbol::Derivative { counts, .. } => counts.iter().map(|&k| u32::from(k)).sum(),
-        }
-    }
+/// The total order of a derivation operator.
+fn order(counts: [u8; 4]) -> u32 {
+    counts.iter().map(|&k| u32::from(k)).sum()
 }
 
 /// How the derivatives of a block are compared.
@@ -94,16 +89,16 @@ impl Ranking {
                 if first.block != second.block {
                     return second.block.cmp(&first.block);
                 }
-                let total = a.order().cmp(&b.order());
-                let lex = s.cmp(&t);
+                let total = || order(s).cmp(&order(t));
+                let lex = || s.cmp(&t);
                 let reverse_lex = || t.iter().rev().cmp(s.iter().rev());
-                let place = second.place.cmp(&first.place);
+                let place = || second.place.cmp(&first.place);
                 match first.kind {
-                    Kind::GrlexA => total.then(lex).then(place),
-                    Kind::GrlexB => total.then(place).then(lex),
-                    Kind::DegrevA => total.then_with(reverse_lex).then(place),
-                    Kind::DegrevB => total.then(place).then_with(reverse_lex),
-                    Kind::LexA => lex.then(place),
+                    Kind::GrlexA => total().then_with(lex).then_with(place),
+                    Kind::GrlexB => total().then_with(place).then_with(lex),
+                    Kind::DegrevA => total().then_with(reverse_lex).then_with(place),
+                    Kind::DegrevB => total().then_with(place).then_with(reverse_lex),
+                    Kind::LexA => lex().then_with(place),
                 }
             }
         }
@@ -116,13 +111,10 @@ impl Ranking {
 type Monomial = Vec<(Symbol, u16)>;
 
 fn compare_monomials(ranking: &Ranking, a: &[(Symbol, u16)], b: &[(Symbol, u16)]) -> Ordering {
-    for (p, q) in a.iter().zip(b) {
-        let order = ranking.compare(p.0, q.0).then(p.1.cmp(&q.1));
-        if order != Ordering::Equal {
-            return order;
-        }
+    match a.iter().zip(b).find(|(p, q)| p != q) {
+        Some((p, q)) => ranking.compare(p.0, q.0).then(p.1.cmp(&q.1)),
+        None => a.len().cmp(&b.len()),
     }
-    a.len().cmp(&b.len())
 }
 
 /// The monomials of both, put together at each symbol that both have; `None` where that is.
@@ -306,7 +298,9 @@ impl Polynomial {
         } else {
             vec![(symbol, exponent)]
         };
-        if monomial.iter().any(|power| power.0.order() > MOST_ORDER) {
+        if let (Symbol::Derivative { counts, .. }, 1..) = (symbol, exponent)
+            && order(counts) > MOST_ORDER
+        {
             return Err(Stop::Large(Limit::Order));
         }
         let degrees = monomial.clone();
