@@ -47,12 +47,7 @@ fn cell_of(alloc: Global, sign: Sign, term: &Term) -> Result<Cell, AllocError>
 }
 
 /// The cell of two terms at one monomial, the second taken with a sign.
-fn cell_of_both(
-    alloc: Global,
-    term: &Term,
-    sign: Sign,
-    other: &Term,
-) -> Result<Cell, AllocError>
+fn cell_of_both(alloc: Global, term: &Term, sign: Sign, other: &Term) -> Result<Cell, AllocError>
     ensures { IfOk result (λ cell. cell ≡ (
       other.now.0,
       add_capped (capped (amount term.now.1)) (capped (amount (signed sign other.now.1))),
