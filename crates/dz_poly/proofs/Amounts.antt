@@ -27,7 +27,8 @@ capped_sum a b = tests (leb a.majorant greatest) (leb b.majorant greatest) (λ e
     tests true false h g = too_much _ (λ e. let k = g e in cc)
     tests false y h g = too_much _ (λ e. let k = h e in cc)
 
-caps_onto : {S : Type 0} (by : Monomial S → Monomial S → Ordering) (rs ts : List (Monomial S × Amount)) → caps (onto by add_amounts rs ts) ≡ onto by add_capped (caps rs) (caps ts)
+-- cells put onto cells are the amounts put onto the amounts
+pub caps_onto : {S : Type 0} (by : Monomial S → Monomial S → Ordering) (rs ts : List (Monomial S × Amount)) → caps (onto by add_amounts rs ts) ≡ onto by add_capped (caps rs) (caps ts)
 caps_onto by rs ts = gather-map by add_amounts add_capped capped capped_sum rs ts
 
 -- the cells of amounts make what the amounts make
@@ -62,7 +63,8 @@ module _ {S : Type 0} {cmp : S → S → Ordering} (order : IsOrder cmp) where
   above_caps m [] a = tt
   above_caps m (t ∷ g) a = (a.0, above_caps m g a.1)
 
-  falling_caps : (g : List (Monomial S × Amount)) → IsFalling by g → IsFalling by (caps g)
+  -- cells fall as their amounts do
+  pub falling_caps : (g : List (Monomial S × Amount)) → IsFalling by g → IsFalling by (caps g)
   falling_caps [] h = tt
   falling_caps (t ∷ g) h = (above_caps t.0 g h.0, falling_caps g h.1)
 

@@ -15,3 +15,4 @@ pub mod ReadingBooks
 pub mod Below
 pub mod Divisibility
 pub mod PowerCoefficients
+pub mod Halves

@@ -50,7 +50,8 @@ module _ {K V : Type 0} (cmp : K → K → Ordering) (add : V → V → V) where
   pub take_row : (ts rs rs' : List (K × V)) (o : Option (K × V)) → length ts ≡ 0 → rs ≡ option_to_list o ++ rs' → merge cmp add ts rs ≡ option_to_list o ++ merge cmp add ts rs'
   take_row ts rs rs' o n f = let e = none ts n in ap (λ l. merge cmp add l rs) e ∙ f ∙ ap (λ l. option_to_list o ++ merge cmp add l rs') (sym e)
 
-  merge_nothing : (ts : List (K × V)) → merge cmp add ts [] ≡ ts
+  -- a pass over one list alone
+  pub merge_nothing : (ts : List (K × V)) → merge cmp add ts [] ≡ ts
   merge_nothing [] = refl
   merge_nothing (t ∷ ts) = refl
 

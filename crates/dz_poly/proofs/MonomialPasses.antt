@@ -3,7 +3,8 @@ use Rattle.std.proofs.Common.{◌≡◌, ◌<◌, ◌+◌, ◌∙◌, ◌||◌, 
 use Rattle.std.proofs.lemmas.Bool.Decides.{nat_tests}
 use Rattle.std.specs.declared.cmp.Ordering.{Ordering}
 use Rattle.std.specs.declared.cmp.Ordering.TheVariants.{Less, Equal, Greater}
-use Rattle.std.specs.Ordering.{match_ordering}
+use Rattle.std.specs.Cmp.{tied_itself}
+use Rattle.std.specs.Ordering.{match_ordering, nat_cmp, ordering_then}
 use Rattle.dz_algebra.specs.Gather.{merge}
 use Rattle.dz_algebra.specs.Monomial.{Monomial, IsMonomial, exponent}
 use Rattle.dz_algebra.proofs.Monomials.{exponent_below, above_more}
@@ -56,6 +57,13 @@ module _ {S : Type 0} (cmp : S → S → Ordering) where
 module _ (r : RankingValue) where
   abbrev cmp : Symbol → Symbol → Ordering
   cmp = ranking_cmp r
+
+  -- a power ties with itself
+  pub equal_powers : (p q : Symbol × ℕ) → p.0 ≡ q.0 → p.1 ≡ q.1 → Equal ≡ ordering_then (cmp p.0 q.0) (nat_cmp p.1 q.1)
+  equal_powers p q e f =
+      let s : cmp p.0 q.0 ≡ Equal = ap (cmp p.0) (sym e) ∙ tied_itself (ranking_order r).total p.0 in
+      let n : nat_cmp p.1 q.1 ≡ Equal = grind (arith, nat_tests) in
+      sym (ap₂ ordering_then s n)
 
   one_power : (s : Symbol) (p : Symbol × ℕ) (m : Monomial Symbol) (o : Ordering) → cmp s p.0 ≡ o → exponent cmp s (p ∷ m) ≡ match_ordering o (exponent cmp s m) (p.1 + exponent cmp s m) (exponent cmp s m)
   one_power s p m o e = ap (λ o. match_ordering o (exponent cmp s m) (p.1 + exponent cmp s m) (exponent cmp s m)) e

@@ -1,5 +1,5 @@
 -- Products of polynomials that stand in a book.
-use Rattle.std.proofs.Common.{◌≡◌, ◌≢◌, ◌<◌, ◌≤◌, ◌+◌, ◌-◌, ◌*ℤ◌, ◌∙◌, ◌||◌, ℕ, zero, suc, Bool, true, false, cond, List, [], ◌∷◌, ◌++◌, length, take, drop, get_or, nat_lt, ◌==◌, ℤ, unsigned_abs, refl, sym, ap, ap₂, subst, arith, add-one, max, ◌⊎◌, inl, inr}
+use Rattle.std.proofs.Common.{◌≡◌, ◌≢◌, ◌<◌, ◌≤◌, ◌+◌, ◌*ℤ◌, ◌∙◌, ◌||◌, ℕ, zero, suc, Bool, true, false, cond, List, [], ◌∷◌, ◌++◌, length, take, get_or, nat_lt, ◌==◌, ℤ, unsigned_abs, refl, sym, ap, ap₂, subst, arith, add-one, max, ◌⊎◌, inl, inr}
 use Rattle.std.specs.Prelude.{Option, Some, None, Ok}
 use Rattle.std.proofs.lemmas.Bool.Decides.{nat_tests}
 use Rattle.std.proofs.lemmas.List.Elements.{All-nil}
@@ -24,7 +24,7 @@ use Rattle.dz_rank.specs.declared.symbols.Symbol.{Symbol}
 use Rattle.dz_rank.specs.Rankings.{RankingValue, ranking_cmp}
 use Rattle.dz_rank.specs.Symbols.{BelongsTo, total_order}
 use Rattle.dz_poly.specs.Books.{IsKeepable, refusal_of, IsStop}
-use Rattle.dz_poly.specs.Cells.{capped, add_capped, caps}
+use Rattle.dz_poly.specs.Cells.{capped, caps}
 use Rattle.dz_poly.specs.Degrees.{degrees, has_high_order, has_high_exponent, limit_of_counts, limit_by}
 use Rattle.dz_poly.specs.Entries.{IsEntry}
 use Rattle.dz_poly.specs.Ranked.{symbols_under}
@@ -32,7 +32,6 @@ use Rattle.dz_poly.specs.Supports.{IsSupportOf}
 use Rattle.dz_poly.specs.Terms.{power_term}
 use Rattle.dz_poly.specs.declared.PolyStop.{PolyStop}
 use Rattle.dz_poly.specs.declared.PolyStop.TheVariants.{Memory, Large}
-use Rattle.dz_poly.proofs.Amounts.{merged, length-caps}
 use Rattle.dz_poly.proofs.Multiples.{high_multiple}
 use Rattle.dz_poly.proofs.Operations.{operation_keepable}
 use Rattle.dz_poly.proofs.Summing.{support_of, low_entry}
@@ -103,7 +102,8 @@ module _ {S : Type 0} {cmp : S → S → Ordering} (order : IsOrder cmp) where
       last true = refl
       last false = refl
 
-  high-append : (ts us : Contributions S) → has_high_exponent (degrees cmp (ts ++ us)) ≡ (has_high_exponent (degrees cmp ts) || has_high_exponent (degrees cmp us))
+  -- the exponents of two lists of contributions
+  pub high-append : (ts us : Contributions S) → has_high_exponent (degrees cmp (ts ++ us)) ≡ (has_high_exponent (degrees cmp ts) || has_high_exponent (degrees cmp us))
   high-append [] us = refl
   high-append (t ∷ ts) us =
       high_multiple order t.0 (degrees cmp (ts ++ us))
@@ -115,27 +115,11 @@ module _ {S : Type 0} {cmp : S → S → Ordering} (order : IsOrder cmp) where
       grouped true b c = refl
       grouped false b c = refl
 
-  -- where no pair is too high, no row is
-  pub low_row : (p q : Polynomial S) (i : ℕ) (t : Monomial S × ℤ) → i < length p → t ≡ get_or p i t → has_high_exponent (degrees cmp (pairs cmp p q)) ≡ false → has_high_exponent (degrees cmp (term_times cmp t.0 t.1 q)) ≡ true → ⊥
-  low_row [] q i t h e a b = absurd (omega arith)
-  low_row (u ∷ p) q zero t h e a b =
-      let f : true ≡ false = sym (ap (λ x. x || has_high_exponent (degrees cmp (pairs cmp p q))) (ap (λ x. has_high_exponent (degrees cmp (term_times cmp x.0 x.1 q))) (sym e) ∙ b)) ∙ sym (high-append (term_times cmp u.0 u.1 q) (pairs cmp p q)) ∙ a in cc
-  low_row (u ∷ p) q (suc i) t h e a b = low_row p q i t (omega arith) e (rest (has_high_exponent (degrees cmp (term_times cmp u.0 u.1 q))) (sym (high-append (term_times cmp u.0 u.1 q) (pairs cmp p q)) ∙ a)) b
-    where
-      rest : (x : Bool) → (x || has_high_exponent (degrees cmp (pairs cmp p q))) ≡ false → has_high_exponent (degrees cmp (pairs cmp p q)) ≡ false
-      rest true e = cc
-      rest false e = e
-
-  longer_gathered : (ts us : Contributions S) → length (gathered cmp us) ≤ length (gathered cmp (ts ++ us))
+  -- further contributions take no monomial away
+  pub longer_gathered : (ts us : Contributions S) → length (gathered cmp us) ≤ length (gathered cmp (ts ++ us))
   longer_gathered ts us =
       subst (λ l. length (gathered cmp us) ≤ length l) (sym (ap (λ l. onto (monomial_cmp cmp) add_amounts l []) (amounts-append order ts us) ∙ onto-append order (amounts ts) (amounts us) []))
       (longer_onto (monomial_order order) add_amounts (amounts ts) (gathered cmp us))
-
-  -- further rows take no monomial away
-  pub longer_pairs : (k : ℕ) (p q : Polynomial S) → length (gathered cmp (pairs cmp (drop k p) q)) ≤ length (gathered cmp (pairs cmp p q))
-  longer_pairs zero p q = omega arith
-  longer_pairs (suc k) [] q = omega arith
-  longer_pairs (suc k) (t ∷ p) q = let h = longer_pairs k p q in let g = longer_gathered (term_times cmp t.0 t.1 q) (pairs cmp p q) in omega arith
 
 -- a row with one more product
 pub row_more : {S : Type 0} (cmp : S → S → Ordering) (k : Monomial S) (c : ℤ) (i : ℕ) (q : Polynomial S) (u : Monomial S × ℤ) → i < length q → u ≡ get_or q i u → caps (amounts (term_times cmp k c (take i q))) ++ (monomial_product cmp k u.0, capped (amount (c *ℤ u.1))) ∷ [] ≡ caps (amounts (term_times cmp k c (take (i + 1) q)))
@@ -146,40 +130,10 @@ row_more {S} cmp k c i q u h e = rw add-one (at i q h e)
     at zero (t ∷ q) h e = ap (λ x. (monomial_product cmp k x.0, capped (amount (c *ℤ x.1))) ∷ []) e
     at (suc i) (t ∷ q) h e = ap (λ l. (monomial_product cmp k t.0, capped (amount (c *ℤ t.1))) ∷ l) (at i q (omega arith) e)
 
-drop_here : {X : Type 0} (j : ℕ) (xs : List X) (x : X) → j < length xs → x ≡ get_or xs j x → drop j xs ≡ x ∷ drop (suc j) xs
-drop_here j [] x h e = absurd (omega arith)
-drop_here zero (y ∷ ys) x h e = ap (λ z. z ∷ ys) (sym e)
-drop_here (suc j) (y ∷ ys) x h e = drop_here j ys x (omega arith) e
-
--- the pairs of one more term, from the last term on
-pub pairs_more : {S : Type 0} (cmp : S → S → Ordering) (i : ℕ) (p q : Polynomial S) (t : Monomial S × ℤ) → i < length p → t ≡ get_or p (length p - 1 - i) t → term_times cmp t.0 t.1 q ++ pairs cmp (drop (length p - i) p) q ≡ pairs cmp (drop (length p - (i + 1)) p) q
-pairs_more cmp i p q t h e =
-    let j : length p - 1 - i ≡ length p - (i + 1) = omega arith in
-    let k : suc (length p - (i + 1)) ≡ length p - i = omega arith in
-    sym (ap (λ l. pairs cmp l q) (drop_here (length p - (i + 1)) p t (omega arith) (e ∙ ap (λ n. get_or p n t) j)) ∙ ap (λ n. term_times cmp t.0 t.1 q ++ pairs cmp (drop n p) q) k)
-
 -- a row that is refused has a high exponent
 pub row_refused : {S : Type 0} {cmp : S → S → Ordering} → IsOrder cmp → (k : Monomial S) (c : ℤ) (q : Polynomial S) (i : ℕ) (u : Monomial S × ℤ) → i < length q → u ≡ get_or q i u → IsMonomial cmp k → IsPolynomial cmp q → (stop : PolyStop) → (stop ≡ Memory) ⊎ ((stop ≡ Large limits.Exponent) × (has_high_exponent (merge cmp ◌+◌ u.0 k) ≡ true)) → (stop ≡ Memory) ⊎ ((stop ≡ Large limits.Exponent) × (has_high_exponent (degrees cmp (term_times cmp k c q)) ≡ true))
 row_refused order k c q i u h g a b stop (inl e) = inl e
 row_refused {cmp = cmp} order k c q i u h g a b stop (inr e) = inr (e.0, high_row order k c q i u h g (ap has_high_exponent (sym (product_merges order k u.0 a (monomial_at cmp q i u h g b))) ∙ e.1))
-
-module _ {S : Type 0} {cmp : S → S → Ordering} (order : IsOrder cmp) (p q : Polynomial S) where
-  -- where no pair has a high exponent, only memory stops a row
-  pub memory_alone : {X : Type 0} (i : ℕ) (t : Monomial S × ℤ) → i < length p → t ≡ get_or p i t → has_high_exponent (degrees cmp (pairs cmp p q)) ≡ false → (stop : PolyStop) → (stop ≡ Memory) ⊎ ((stop ≡ Large limits.Exponent) × (has_high_exponent (degrees cmp (term_times cmp t.0 t.1 q)) ≡ true)) → (stop ≡ Memory) ⊎ X
-  memory_alone i t h e a stop (inl f) = inl f
-  memory_alone i t h e a stop (inr f) = absurd (low_row order p q i t h e a f.1)
-
-  -- one more row
-  pub row_absorbed : (i : ℕ) (t : Monomial S × ℤ) (cells row all : List (Monomial S × Option Amount)) → i < length p → t ≡ get_or p (length p - 1 - i) t → IsPolynomial cmp p → IsPolynomial cmp q → all ≡ merge (monomial_cmp cmp) add_capped cells row → cells ≡ caps (gathered cmp (pairs cmp (drop (length p - i) p) q)) → row ≡ caps (amounts (term_times cmp t.0 t.1 q)) → all ≡ caps (gathered cmp (pairs cmp (drop (length p - (i + 1)) p) q))
-  row_absorbed i t cells row all h e a b f g k =
-      let term = monomial_at cmp p (length p - 1 - i) t (omega arith) e a in
-      f ∙ ap₂ (merge (monomial_cmp cmp) add_capped) g k
-      ∙ merged order (term_times cmp t.0 t.1 q) (pairs cmp (drop (length p - i) p) q) (row_falls order t.0 t.1 q term b)
-      ∙ ap (λ ts. caps (gathered cmp ts)) (pairs_more cmp i p q t h e)
-
-  -- too many cells so far are too many in the end
-  pub too_many : (k : ℕ) (all : List (Monomial S × Option Amount)) → all ≡ caps (gathered cmp (pairs cmp (drop k p) q)) → 4096 < length all → 4096 < length (gathered cmp (pairs cmp p q))
-  too_many k all e l = let h = longer_pairs order k p q in let g : length all ≡ length (gathered cmp (pairs cmp (drop k p) q)) = ap length e ∙ length-caps (gathered cmp (pairs cmp (drop k p) q)) in omega arith
 
 -- ---- what a product answers
 -- an operation whose support passes a limit is refused by it

@@ -1,5 +1,5 @@
 -- Sums and differences of polynomials that stand in a book.
-use Rattle.std.proofs.Common.{◌≡◌, ◌∙◌, ◌||◌, ◌++◌, ℕ, max, Bool, true, false, cond, List, [], ◌∷◌, length, ℤ, neg_ℤ, nat_lt, refl, sym, ap, ap₂, subst}
+use Rattle.std.proofs.Common.{◌≡◌, ◌∙◌, ◌||◌, ◌++◌, ℕ, max, Bool, true, false, cond, List, [], ◌∷◌, length, ℤ, neg_ℤ, nat_lt, refl, sym, ap, ap₂, subst, arith}
 use Rattle.std.specs.Prelude.{Option, Some, None, Result, Ok, Err, IfOk}
 use Rattle.std.specs.declared.cmp.Ordering.{Ordering}
 use Rattle.dz_algebra.specs.declared.Limit.TheVariants as limits
@@ -25,6 +25,7 @@ use Rattle.dz_poly.specs.Supports.{IsSupportOf}
 use Rattle.dz_poly.specs.declared.sums.Sign.{Sign}
 use Rattle.dz_poly.specs.declared.sums.Sign.TheVariants.{Plus, Minus}
 use Rattle.dz_poly.proofs.Amounts.{merged_sum, length-caps}
+use Rattle.dz_poly.proofs.Merging.{merge_nothing}
 use Rattle.dz_poly.proofs.Multiples.{limit_of_degrees, high_multiple}
 use Rattle.dz_poly.proofs.Operations.{concluded_is, operation_keepable}
 use Rattle.dz_poly.proofs.Support.{degrees_sum, degrees_gathered, one_pass}
@@ -64,6 +65,11 @@ pub merged_signs : {S : Type 0} {cmp : S → S → Ordering} → IsOrder cmp →
 merged_signs {cmp = cmp} order p sign q h g =
     ap (λ a. merge (monomial_cmp cmp) add_capped (caps (amounts (with_sign sign q))) (caps (amounts a))) (plus_same p)
     ∙ merged_sum order p (with_sign sign q) h (with_sign_is order sign q g)
+
+-- the pass ends where the first side does
+pub terms_ended : {S : Type 0} (by : Monomial S → Monomial S → Ordering) (all ts new whole : List (Monomial S × Option Amount)) (p : Polynomial S) → all ++ merge by add_capped ts (caps (amounts (with_sign Plus p))) ≡ whole → length p ≡ 0 → new ≡ all ++ ts → new ≡ whole
+terms_ended by all ts new whole [] e h f = f ∙ sym (ap (λ l. all ++ l) (merge_nothing by add_capped ts)) ∙ e
+terms_ended by all ts new whole (t ∷ p) e h f = absurd (omega arith)
 
 -- ---- limits of one side
 pub record IsLow (order : Symbol → ℕ) (m : Monomial Symbol) : Type 0 where

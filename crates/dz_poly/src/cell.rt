@@ -1,6 +1,6 @@
 //! Monomials with what contributions make there.
 
-ghost use Rattle.std.specs.Prelude.{◌≡◌, ◌≤◌, ◌*ℤ◌, unsigned_abs};
+ghost use Rattle.std.specs.Prelude.{◌≡◌, ◌≤◌, ◌*ℤ◌, unsigned_abs, Some, None};
 ghost use Rattle.std.specs.Option.{option_map};
 ghost use Rattle.dz_algebra.specs.Amount.{amount, greatest};
 ghost use Rattle.dz_poly.specs.Cells.{add_capped, capped};
@@ -41,7 +41,7 @@ impl Model for Cell {
 }
 
 impl Cell {
-    ghost use Rattle.std.specs.Prelude.{◌≡◌, ◌≤◌, ◌*ℤ◌, unsigned_abs};
+    ghost use Rattle.std.specs.Prelude.{◌≡◌, ◌≤◌, ◌*ℤ◌, unsigned_abs, Some, None};
     ghost use Rattle.std.specs.Option.{option_map};
     ghost use Rattle.dz_algebra.specs.Amount.{amount, greatest};
     ghost use Rattle.dz_poly.specs.Cells.{add_capped, capped};
@@ -59,18 +59,25 @@ impl Cell {
         }
     }
 
+    /// A monomial with the mark that its contributions are too great.
+    fn too_wide(powers: Powers) -> Cell
+        ensures { result ≡ (powers.items, None) }
+    {
+        Cell {
+            powers,
+            total: 0,
+            majorant: 0,
+            wide: true,
+        }
+    }
+
     /// A monomial with the product of two coefficients.
     pub(crate) fn of_product(powers: Powers, a: i128, b: i128) -> Cell
         ensures { result ≡ (powers.items, capped (amount (a *ℤ b))) }
     {
         match a.checked_mul(b) {
             Some(product) if product.unsigned_abs() <= GREATEST => Cell::new(powers, product),
-            _ => Cell {
-                powers,
-                total: 0,
-                majorant: 0,
-                wide: true,
-            },
+            _ => Cell::too_wide(powers),
         }
     }
 
@@ -97,9 +104,15 @@ impl Cell {
         }
     }
 
-    /// The cell with the amount of another cell at the same monomial.
-    pub(crate) fn join(self, other: Cell) -> Cell
-        ensures { result ≡ (self.0, add_capped other.1 self.1) }
+    /// The cell with a further sum at its monomial, of contributions with the sum `by` of absolute
+    /// values.
+    fn with_sums(self, more: i128, by: u128) -> Cell
+        requires bounded { unsigned_abs more ≤ by }
+        requires fits { by ≤ greatest }
+        ensures { result ≡ (
+          self.0,
+          add_capped (Some (record { total = more; majorant = by })) self.1,
+        ) }
     {
         let Cell {
             powers,
@@ -107,19 +120,8 @@ impl Cell {
             majorant,
             wide,
         } = self;
-        let Cell {
-            powers: _,
-            total: more,
-            majorant: by,
-            wide: too_wide,
-        } = other;
-        if wide || too_wide || GREATEST - majorant < by {
-            return Cell {
-                powers,
-                total,
-                majorant,
-                wide: true,
-            };
+        if wide || GREATEST - majorant < by {
+            return Cell::too_wide(powers);
         }
         Cell {
             powers,
@@ -127,5 +129,29 @@ impl Cell {
             majorant: majorant + by,
             wide: false,
         }
+    }
+
+    /// The cell with one more contribution at its monomial.
+    pub(crate) fn plus(self, coefficient: i128) -> Cell
+        requires { unsigned_abs coefficient ≤ greatest }
+        ensures { result ≡ (self.0, add_capped (capped (amount coefficient)) self.1) }
+    {
+        self.with_sums(coefficient, coefficient.unsigned_abs())
+    }
+
+    /// The cell with the amount of another cell at the same monomial.
+    pub(crate) fn join(self, other: Cell) -> Cell
+        ensures { result ≡ (self.0, add_capped other.1 self.1) }
+    {
+        let Cell {
+            powers: _,
+            total,
+            majorant,
+            wide,
+        } = other;
+        if wide {
+            return Cell::too_wide(self.powers);
+        }
+        self.with_sums(total, majorant)
     }
 }

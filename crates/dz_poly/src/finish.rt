@@ -54,7 +54,7 @@ fn finish(alloc: Global, cells: VecDeque<Cell>) -> Result<Vec<Term>, PolyStop>
         ⊎ ((e ≡ Wide) × (finished cells.items ≡ None))) }
 {
     let mut cells = cells;
-    let mut terms = Vec::new(alloc);
+    let mut terms = Vec::with_capacity(alloc, cells.len())?;
     while let Some(cell) = cells.pop_front() {
         let Some(term) = cell.into_term() else {
             return Err(PolyStop::Wide);

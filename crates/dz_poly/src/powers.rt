@@ -1,6 +1,7 @@
 //! Monomials: symbols with their exponents, the greatest symbol first.
 
-ghost use Rattle.std.specs.Prelude.{◌≡◌, ◌⊎◌, ◌+◌, ◌++◌, [], ◌∷◌, max, false, true, IfOk, IfErr, OnOk};
+ghost use Rattle.std.specs.Prelude.{◌≡◌, ◌⊎◌, ◌+◌, ◌++◌, [], ◌∷◌, max, false, true, IsTrue, IfOk, IfErr, OnOk};
+ghost use Rattle.std.specs.Ordering.{nat_cmp, ordering_then};
 ghost use Rattle.dz_algebra.specs.Gather.{merge};
 ghost use Rattle.dz_algebra.specs.Monomial.{IsMonomial, exponent, monomial_cmp, without};
 ghost use Rattle.dz_algebra.specs.declared.Limit.TheVariants.{Exponent};
@@ -18,6 +19,37 @@ use std::cmp::Ordering;
 /// The powers of a monomial, kept inline where they are few.
 pub(crate) type Powers = SmallVec<(Symbol, u16), 4>;
 
+/// Whether two symbols are the same, without a look at the ranking.
+fn is_same(a: Symbol, b: Symbol) -> bool
+    ensures { IsTrue result → a ≡ b }
+{
+    match (a, b) {
+        (Symbol::Independent(i), Symbol::Independent(j)) => i == j,
+        (
+            Symbol::Derivative {
+                dependent: u,
+                operator: s,
+            },
+            Symbol::Derivative {
+                dependent: v,
+                operator: t,
+            },
+        ) => u == v && s.counts == t.counts,
+        _ => false,
+    }
+}
+
+#[tactic(auto, using(crate::proofs::MonomialPasses::equal_powers))]
+/// Compares by the symbol, and then by the exponent; most powers that are compared are equal.
+fn compare_powers(ranking: &Ranking, p: (Symbol, u16), q: (Symbol, u16)) -> Ordering
+    ensures { result ≡ ordering_then (ranking_cmp ranking.now p.0 q.0) (nat_cmp p.1 q.1) }
+{
+    if p.1 == q.1 && is_same(p.0, q.0) {
+        return Ordering::Equal;
+    }
+    ranking.compare(p.0, q.0).then(p.1.cmp(&q.1))
+}
+
 /// Compares by the exponent of the greatest symbol at which the monomials differ.
 pub(crate) fn compare_monomials(
     ranking: &Ranking,
@@ -28,7 +60,7 @@ pub(crate) fn compare_monomials(
 {
     let mut i = 0;
     while i < a.len() && i < b.len() {
-        let order = ranking.compare(a[i].0, b[i].0).then(a[i].1.cmp(&b[i].1));
+        let order = compare_powers(ranking, a[i], b[i]);
         if order != Ordering::Equal {
             return order;
         }

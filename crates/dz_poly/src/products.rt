@@ -51,7 +51,7 @@ fn row_cells(
         × (has_high_exponent (degrees (ranking_cmp ranking.now)
         (term_times (ranking_cmp ranking.now) term.now.0 term.now.1 q.now)) ≡ true))) }
 {
-    let mut cells = VecDeque::new(alloc);
+    let mut cells = VecDeque::with_capacity(alloc, q.len())?;
     for other in q {
         let powers = multiply(alloc, ranking, term.powers(), other.powers())?;
         cells.push_back(product_cell(powers, term, other))?;
@@ -59,14 +59,16 @@ fn row_cells(
     Ok(cells)
 }
 
-/// What the products of all pairs make at each monomial, where their exponents are in range; after
-/// the first monomial too many no further product is made.
+/// What the products of all pairs make at each monomial, where their exponents are in range. The
+/// halves of `p` are taken apart and merged, so that each contribution takes part in as many merges
+/// as `p` can be halved; after the first monomial too many no further product is made.
 fn product_cells(
     alloc: Global,
     ranking: &Ranking,
     p: &[Term],
     q: &[Term],
 ) -> Result<VecDeque<Cell>, PolyStop>
+    requires nonzero { 0 < length p.now }
     requires first { IsPolynomial (ranking_cmp ranking.now) p.now }
     requires second { IsPolynomial (ranking_cmp ranking.now) q.now }
     requires low_first { has_high_exponent (degrees (ranking_cmp ranking.now) p.now) ≡ false }
@@ -79,13 +81,16 @@ fn product_cells(
         × (4096 < length (gathered (ranking_cmp ranking.now)
         (pairs (ranking_cmp ranking.now) p.now q.now))))) }
 {
-    let mut cells = VecDeque::new(alloc);
-    for i in 0..p.len() {
-        let row = row_cells(alloc, ranking, &p[p.len() - 1 - i], q)?;
-        cells = absorb(alloc, ranking, cells, row)?;
-        if cells.len() > MOST_TERMS {
-            return Err(PolyStop::Large(Limit::Terms));
-        }
+    if p.len() == 1 {
+        let row = row_cells(alloc, ranking, &p[0], q)?;
+        return Ok(row);
+    }
+    let (front, back) = p.split_at(p.len() / 2);
+    let row = product_cells(alloc, ranking, front, q)?;
+    let rest = product_cells(alloc, ranking, back, q)?;
+    let cells = absorb(alloc, ranking, rest, row)?;
+    if cells.len() > MOST_TERMS {
+        return Err(PolyStop::Large(Limit::Terms));
     }
     Ok(cells)
 }

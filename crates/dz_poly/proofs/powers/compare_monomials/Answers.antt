@@ -30,4 +30,4 @@ pub returns : goal.returns
 returns c =
     let i = c.loop-i.invariant in
     let out : (length c.args.a.now ≤ c.loop-i.i) ⊎ (length c.args.b.now ≤ c.loop-i.i) = elim c.loop-i-test.branch [ then-loop-i-test+else-i-b w ↦ inr (omega arith) | else-loop-i-test w ↦ inl (omega arith) ] in
-    c.cmp-2.ensures ∙ sym (ended _ c.loop-i.i c.args.a.now c.args.b.now i.in_a i.in_b out) ∙ sym i.rest
+    c.cmp.ensures ∙ sym (ended _ c.loop-i.i c.args.a.now c.args.b.now i.in_a i.in_b out) ∙ sym i.rest

@@ -14,7 +14,7 @@ multiply-requires-clause-second c = rw c.powers-in-loop-other.ensures (low_at (r
 
 pub returns-in_err-powers-clause-refused : goal.returns-in_err-powers-clause-refused
 returns-in_err-powers-clause-refused c =
-    let y = err_from_is_err_and c.from_residual.result c.from_residual.ensures.1 in
+    let y = err_from_is_err_and c.from_residual-in_err-powers.result c.from_residual-in_err-powers.ensures.1 in
     rw (y.1, y.2)
     (row_refused (ranking_order c.args.ranking.now) c.args.term.now.0 c.args.term.now.1 c.args.q.now c.loop-other.other-index c.other-item.result (omega arith) c.other-item.is c.requires.term c.requires.canonical _
     (rw (← c.powers.ensures, ← c.powers-in-loop-other.ensures) c.in_err-powers.ensures.refused))
