@@ -1,4 +1,5 @@
 pub mod Values
 pub mod Texts
 pub mod Steps
+pub mod Writing
 pub mod Reading

@@ -4,7 +4,9 @@
 mod expansion;
 mod laws;
 mod read;
+mod write;
 
 pub use expansion::expand;
 pub use laws::{one_operator, one_symbol, text_is_item};
 pub use read::{read_operator, read_symbol};
+pub use write::{write_operator, write_poly, write_symbol};

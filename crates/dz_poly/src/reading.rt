@@ -68,6 +68,25 @@ pub fn exponent_at(book: &Book, a: Poly, k: usize, s: Symbol) -> u16
     exponent_of(book.ranking(), book.entry(a).terms[k].powers(), s)
 }
 
+/// The number of symbols in the term at a position.
+pub fn power_count(book: &Book, a: Poly, k: usize) -> usize
+    requires lives { Lives book.now a }
+    requires inside { k < length (polynomial book.now a) }
+    ensures { result ≡ length (term_at (polynomial book.now a) k).0 }
+{
+    book.entry(a).terms[k].powers().len()
+}
+
+/// The symbol at a position in the term at a position, with its exponent.
+pub fn power_at(book: &Book, a: Poly, k: usize, j: usize) -> (Symbol, u16)
+    requires lives { Lives book.now a }
+    requires inside { k < length (polynomial book.now a) }
+    requires among { j < length (term_at (polynomial book.now a) k).0 }
+    ensures { slice_get (term_at (polynomial book.now a) k).0 j ≡ Some result }
+{
+    book.entry(a).terms[k].powers()[j]
+}
+
 #[tactic(auto, using(crate::proofs::ReadingBooks::same_pair, crate::proofs::ReadingBooks::other_pair))]
 /// Whether two terms are equal.
 fn same_term(ranking: &Ranking, a: &Term, b: &Term) -> bool
