@@ -10,3 +10,4 @@ pub mod TextsDiffer
 pub mod CutTexts
 pub mod OperatorsRead
 pub mod SymbolsRead
+pub mod Marks

@@ -52,10 +52,11 @@ fn push_derivations(into: &mut Vec<u8>, names: &Names, operator: Operator) -> Re
 }
 
 /// Whether the operator takes no derivation.
+#[tactic(auto, using(crate::proofs::Marks::all_zero))]
 fn is_identity(operator: Operator) -> bool
     ensures { result ≡ is_identity operator }
 {
-    operator.counts == [0; 4]
+    operator.counts.iter().all(|count| *count == 0)
 }
 
 /// Appends the text of an operator.
@@ -121,6 +122,24 @@ fn push_power(
     into.extend_from_slice(buffer.format(exponent).as_bytes())
 }
 
+/// Appends a power, after a star where one was written before it.
+fn push_next_power(
+    into: &mut Vec<u8>,
+    names: &Names,
+    power: (Symbol, u16),
+    first: bool,
+) -> Result<(), AllocError>
+    requires { BelongsTo (signature_of names.now) power.0 }
+    ensures { OnOk result (into.new.items ≡ into.old.items
+        ++ cond first [] (codes "*") ++ power_text names.now power.0 power.1) }
+{
+    if !first {
+        into.extend_from_slice(b"*")?;
+    }
+    let (symbol, exponent) = power;
+    push_power(into, names, symbol, exponent)
+}
+
 /// Appends the powers of the term at a position, with stars between them.
 fn push_powers(
     into: &mut Vec<u8>,
@@ -136,11 +155,7 @@ fn push_powers(
 {
     book.opened();
     'powers: for j in 0..power_count(book, p, k) {
-        let (symbol, exponent) = power_at(book, p, k, j);
-        if j > 0 {
-            into.extend_from_slice(b"*")?;
-        }
-        push_power(into, names, symbol, exponent)?;
+        push_next_power(into, names, power_at(book, p, k, j), j == 0)?;
     }
     Ok(())
 }
