@@ -13,6 +13,7 @@ use Rattle.dz_form.specs.Reading.{split_once, without_bracket}
 use Rattle.dz_form.proofs.TextTokens.{both_true}
 use Rattle.dz_form.proofs.SymbolTexts.{position_is}
 
+-- what is in two equal options is equal
 pub some_is : (A : Type 0) (x y : A) → Some x ≡ Some y → x ≡ y
 some_is A x y e = cc
 
@@ -22,6 +23,7 @@ some_is A x y e = cc
 abbrev pub lacks : ℕ → List ℕ → Bool
 lacks mark text = list_all (λ b. not (b == mark)) text
 
+-- a byte of a name is no other mark, by whether it is the mark
 other_by : (mark b : ℕ) (same : Bool) → (b == mark) ≡ same → is_name_byte mark ≡ false → is_name_byte b ≡ true → not same ≡ true
 other_by mark b true is e f = let one = (Decides-eqb b mark).0 is in let no : is_name_byte mark ≡ true = rw (← one) f in absurd (let bad : false ≡ true = sym e ∙ no in cc)
 other_by mark b false is e f = refl
@@ -33,15 +35,18 @@ name_lacks mark (b ∷ text) e all =
     let f = both_true (is_name_byte b) (list_all is_name_byte text) all in
     rw (other_by mark b (b == mark) refl e f.0) (name_lacks mark text e f.1)
 
+-- a mark is itself
 same_byte : (mark : ℕ) → (mark == mark) ≡ true
 same_byte mark = (Decides-eqb mark mark).1 refl
 
+-- the place of the first mark
 place_at : (mark : ℕ) (before behind : List ℕ) → lacks mark before ≡ true → position_or_len (λ b. b == mark) (before ++ mark ∷ behind) ≡ length before
 place_at mark [] behind all = rw (same_byte mark) refl
 place_at mark (b ∷ before) behind all =
     let f = both_true (not (b == mark)) (lacks mark before) all in
     rw (f.0, place_at mark before behind f.1) (omega arith)
 
+-- there is no place where there is no mark
 place_none : (mark : ℕ) (text : List ℕ) → lacks mark text ≡ true → position_or_len (λ b. b == mark) text ≡ length text
 place_none mark [] all = refl
 place_none mark (b ∷ text) all =
@@ -66,6 +71,7 @@ split_once-none mark text all =
     let end : nat_lt (length text) (length text) ≡ false = grind (arith, nat_tests) in
     rw (place_none mark text all, end) refl
 
+-- what a text is that is cut, by the place
 cut_at : (mark : ℕ) (text : List ℕ) (p : List ℕ × List ℕ) (place : Option ℕ) → position (λ b. b == mark) text ≡ place → option_map (λ at. (take at text, drop (at + 1) text)) place ≡ Some p
     → text ≡ p.0 ++ mark ∷ p.1
 cut_at mark text p None is e = absurd cc
@@ -82,6 +88,7 @@ split_once-some mark text p e = cut_at mark text p (position (λ b. b == mark) t
 
 -- ---- a closing bracket at the end
 
+-- a text before a closing bracket, by whether it has one
 bracket_by : (text inside : List ℕ) (is : Bool) → bytes_eq (drop (length text - 1) text) (codes "]") ≡ is → (if is then Some (take (length text - 1) text) else None) ≡ Some inside → text ≡ inside ++ codes "]"
 bracket_by text inside true is e =
     let end = (bytes_eq-Decides (drop (length text - 1) text) (codes "]")).0 is in
@@ -89,9 +96,11 @@ bracket_by text inside true is e =
     sym (take-append-drop (length text - 1) text) ∙ ap (λ (rest : List ℕ). take (length text - 1) text ++ rest) end ∙ ap (λ (t : List ℕ). t ++ codes "]") front
 bracket_by text inside false is e = absurd cc
 
+-- what a text is that ends with a closing bracket
 pub without_bracket-some : (text inside : List ℕ) → without_bracket text ≡ Some inside → text ≡ inside ++ codes "]"
 without_bracket-some text inside e = bracket_by text inside (bytes_eq (drop (length text - 1) text) (codes "]")) refl e
 
+-- a closing bracket at the end is taken off
 pub without_bracket-at : (inside : List ℕ) → without_bracket (inside ++ codes "]") ≡ Some inside
 without_bracket-at inside =
     let n : length (inside ++ codes "]") - 1 ≡ length inside = omega (arith, length_push inside 93) in

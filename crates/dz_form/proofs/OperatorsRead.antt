@@ -24,6 +24,7 @@ use Rattle.dz_form.proofs.CutTexts.{some_is, lacks, name_lacks, split_once-at, s
 
 -- ---- what a name stands for
 
+-- what a name stands for, by its place
 found_by : (names : Declared) (name : List ℕ) (s : Symbol) (place : Option ℕ) → position (λ n. bytes_eq name n) names.all ≡ place → symbol_numbered names.independents place ≡ Some s
     → (i : ℕ) × (i < length names.all) × (name ≡ name_numbered names i) × (symbol_numbered names.independents (Some i) ≡ Some s)
 found_by names name s None is e = absurd cc
@@ -37,11 +38,13 @@ pub found : (names : Declared) (name : List ℕ) (s : Symbol) → find names nam
 unfolding find
 found names name s e = found_by names name s (position (λ n. bytes_eq name n) names.all) refl e
 
+-- an independent, by whether the number is one of an independent
 independent_by : (names : Declared) (j i : ℕ) (below : Bool) → nat_lt j names.independents ≡ below → (if below then Independent j else plain (j - names.independents)) ≡ Independent i
     → (j < names.independents) × (j ≡ i)
 independent_by names j i true is e = (grind (arith, nat_tests), cc)
 independent_by names j i false is e = absurd cc
 
+-- a name that stands for an independent is its name
 pub independent_found : (names : Declared) (name : List ℕ) (i : ℕ) → find names name ≡ Some (Independent i) → (i < names.independents) × (name ≡ name_numbered names i)
 independent_found names name i e =
     let f = found names name (Independent i) e in
@@ -50,24 +53,29 @@ independent_found names name i e =
 
 -- ---- exponents that are zero
 
+-- numbers that are tested to be zero
 zeros_from : (ks : List ℕ) → list_all (λ k. k == 0) ks ≡ true → Zeros ks
 zeros_from [] all i d lt = absurd (omega arith)
 zeros_from (k ∷ ks) all zero d lt = (Decides-eqb k 0).0 (both_true (k == 0) (list_all (λ k. k == 0) ks) all).0
 zeros_from (k ∷ ks) all (suc i) d lt = zeros_from ks (both_true (k == 0) (list_all (λ k. k == 0) ks) all).1 i d (omega arith)
 
+-- zeros pass the test
 zeros_pass : (ks : List ℕ) → Zeros ks → list_all (λ k. k == 0) ks ≡ true
 zeros_pass [] z = refl
 zeros_pass (k ∷ ks) z = rw (All-head (λ k. k ≡ 0) k ks z) (zeros_pass ks (All-tail (λ k. k ≡ 0) k ks z))
 
+-- copies of zero
 zeros_replicate : (n : ℕ) → Zeros (replicate n 0)
 zeros_replicate n i d lt = get_or-replicate n i 0 d (omega (arith, length-replicate {A = ℕ}, lt))
 
 -- ---- one name more
 
+-- copies before two lists
 times-append : (i count : ℕ) (is js : List ℕ) → times i count (is ++ js) ≡ times i count is ++ js
 times-append i zero is js = refl
 times-append i (suc count) is js = ap (λ (more : List ℕ). i ∷ more) (times-append i count is js)
 
+-- one copy more
 times-push : (i count : ℕ) → times i (count + 1) [] ≡ times i count [] ++ i ∷ []
 times-push i zero = refl
 times-push i (suc count) = let e : suc count + 1 ≡ suc (count + 1) = omega arith in rw e (ap (λ (more : List ℕ). i ∷ more) (times-push i count))
@@ -94,10 +102,12 @@ record OneMore (names : Declared) (o : Operator) (name : List ℕ) (p : Operator
   zeros : Zeros (drop (independent + 1) o.counts)
   raised_is : raised o independent ≡ p
 
+-- an operator with one name more, by the test
 raised_if : (o p : Operator) (i : ℕ) (last : Bool) → (if last then Some (raised o i) else None) ≡ Some p → (last ≡ true) × (raised o i ≡ p)
 raised_if o p i true e = (refl, some_is Operator (raised o i) p e)
 raised_if o p i false e = absurd cc
 
+-- the same, by what the name stands for
 one_more_by : (names : Declared) (o : Operator) (name : List ℕ) (p : Operator) (s : Option Symbol) → find names name ≡ s → raised_last o s ≡ Some p → OneMore names o name p
 one_more_by names o name p None is e = absurd cc
 one_more_by names o name p (Some (Derivative u t)) is e = absurd cc
@@ -106,12 +116,14 @@ one_more_by names o name p (Some (Independent i)) is e =
     let g = raised_if o p i (list_all (λ count. count == 0) (drop (i + 1) o.counts)) e in
     record { independent = i; below = f.0; name_is = f.1; zeros = zeros_from (drop (i + 1) o.counts) g.0; raised_is = g.1 }
 
+-- an operator that is read with one name more
 one_more : (names : Declared) (o : Operator) (name : List ℕ) (p : Operator) → with_name names o name ≡ Some p → OneMore names o name p
 unfolding with_name
 one_more names o name p e = one_more_by names o name p (find names name) refl e
 
 -- ---- what is read is canonical
 
+-- both steps of a chain that gives something
 pub and_then_some : {A B : Type 0} (f : A → Option B) (r : Option A) (y : B) → option_and_then f r ≡ Some y → (x : A) × (r ≡ Some x) × (f x ≡ Some y)
 and_then_some f None y e = absurd cc
 and_then_some f (Some x) y e = (x, refl, e)
@@ -129,6 +141,7 @@ record ReadNames (names : Declared) (o : Operator) (text : List ℕ) (p : Operat
 grown : (names : Declared) (left : ℕ) (o : Operator) (name : List ℕ) (p : Operator) → MayGrow names (suc left) o → OneMore names o name p → MayGrow names left p
 grown names left o name p m one = subst (λ (p : Operator). MayGrow names left p) one.raised_is (raised_may_grow names left o one.independent one.below m)
 
+-- one name more comes last
 one_more_indices : (names : Declared) (left : ℕ) (o : Operator) (name : List ℕ) (p : Operator) → IsDeclared names → MayGrow names left o → (one : OneMore names o name p)
     → indices 0 p.counts ≡ indices 0 o.counts ++ one.independent ∷ []
 one_more_indices names left o name p d m one =
@@ -138,6 +151,7 @@ one_more_indices names left o name p d m one =
     ∙ indices-raised one.independent 0 o.counts within one.zeros
     ∙ ap (λ (i : ℕ). indices 0 o.counts ++ i ∷ []) zero_plus
 
+-- the first name is read, and then the others
 names_from : (names : Declared) (left : ℕ) (o : Operator) (text : List ℕ) (p : Operator) → IsDeclared names → MayGrow names (suc left) o
     → ((o : Operator) (text : List ℕ) → MayGrow names left o → derivations left names o text ≡ Some p → ReadNames names o text p)
     → (cut : Option (List ℕ × List ℕ)) → split_once 44 text ≡ cut → derivations_from (λ o rest. derivations left names o rest) names o text cut ≡ Some p → ReadNames names o text p
@@ -167,12 +181,14 @@ names_from names left o text p d m more (Some cut) is e =
       order = rest.order;
     }
 
+-- what is read is names of independents with commas between them
 derivations_sound : (names : Declared) (left : ℕ) (o : Operator) (text : List ℕ) (p : Operator) → IsDeclared names → MayGrow names left o → derivations left names o text ≡ Some p → ReadNames names o text p
 unfolding derivations
 derivations_sound names zero o text p d m e = absurd cc
 derivations_sound names (suc left) o text p d m e =
     names_from names left o text p d m (λ o text n f. derivations_sound names left o text p d n f) (split_once 44 text) refl e
 
+-- an operator with a name takes a derivation
 some_names : (o : Operator) (i : ℕ) (more : List ℕ) → indices 0 o.counts ≡ i ∷ more → is_identity o ≡ false
 some_names o i more e =
     let some : 0 < sum o.counts = omega (arith, length-indices 0 o.counts, ap length e) in
@@ -199,19 +215,23 @@ names_are_text names text o d r =
 pub derivations_found : (names : Declared) (text : List ℕ) (o : Operator) → IsDeclared names → derivations 60 names identity text ≡ Some o → IsDerivationsText names o text
 derivations_found names text o d e = names_are_text names text o d (derivations_sound names 60 identity text o d (identity_may_grow names) e)
 
+-- derivations are the text of an operator
 derivations_are_text : (names : Declared) (text : List ℕ) (o : Operator) → IsDerivationsText names o text → IsOperatorText names o text
 unfolding operator_text
 derivations_are_text names text o t = record { operator = t.operator; order = t.order; text_is = rw t.proper t.text_is }
 
+-- - is the text of the identity
 minus_is_identity : (names : Declared) (text : List ℕ) → text ≡ codes "-" → IsOperatorText names identity text
 unfolding operator_text
 minus_is_identity names text e = let m = identity_may_grow names in record { operator = m.is; order = omega arith; text_is = sym e }
 
+-- what is read is canonical, by whether it is -
 operator_found_by : (names : Declared) (text : List ℕ) (o : Operator) (minus : Bool) → IsDeclared names → bytes_eq text (codes "-") ≡ minus
     → (if minus then Some identity else derivations 60 names identity text) ≡ Some o → IsOperatorText names o text
 operator_found_by names text o true d is e = subst (λ (o : Operator). IsOperatorText names o text) (some_is Operator identity o e) (minus_is_identity names text ((bytes_eq-Decides text (codes "-")).0 is))
 operator_found_by names text o false d is e = derivations_are_text names text o (derivations_found names text o d e)
 
+-- what is read as an operator is its text
 operator_found : (names : Declared) (text : List ℕ) (o : Operator) → IsDeclared names → operator_at names text ≡ Some o → IsOperatorText names o text
 unfolding operator_at
 operator_found names text o d e = operator_found_by names text o (bytes_eq text (codes "-")) d refl e
@@ -223,6 +243,7 @@ abbrev Rises : Operator → List ℕ → Type 0
 Rises o [] = ⊤
 Rises o (i ∷ is) = Zeros (drop (i + 1) o.counts) × Rises (raised o i) is
 
+-- copies of an independent may come where it may
 rises-times : (done : List ℕ) (k count x : ℕ) (more is : List ℕ) → length done ≡ k → Zeros more → Rises (record { counts = done ++ (x + count) ∷ more }) is
     → Rises (record { counts = done ++ x ∷ more }) (times k count is)
 rises-times done k zero x more is e z rises = let same : x + 0 ≡ x = omega arith in subst (λ (y : ℕ). Rises (record { counts = done ++ y ∷ more }) is) same rises
@@ -233,6 +254,7 @@ rises-times done k (suc count) x more is e z rises =
     let next = rises-times done k count (x + 1) more is e z (subst (λ (y : ℕ). Rises (record { counts = done ++ y ∷ more }) is) same rises) in
     (subst (λ (ks : List ℕ). Zeros ks) behind z, subst (λ (o : Operator). Rises o (times k count is)) (sym (raised_at done k x more e)) next)
 
+-- the independents of an operator come in order
 rises-indices : (done : List ℕ) (k : ℕ) (counts : List ℕ) → length done ≡ k → Rises (record { counts = done ++ replicate (length counts) 0 }) (indices k counts)
 rises-indices done k [] e = tt
 rises-indices done k (count ∷ counts) e =
@@ -243,13 +265,16 @@ rises-indices done k (count ∷ counts) e =
     rises-times done k count 0 zeros (indices (suc k) counts) e (zeros_replicate (length counts))
     (subst (λ (all : List ℕ). Rises (record { counts = all }) (indices (suc k) counts)) same (rises-indices (done ++ count ∷ []) (suc k) counts next))
 
+-- a name that may come is read
 name_taken : (names : Declared) (o : Operator) (i : ℕ) → IsDeclared names → i < names.independents → Zeros (drop (i + 1) o.counts) → with_name names o (name_numbered names i) ≡ Some (raised o i)
 unfolding with_name
 name_taken names o i d lt z = ap (raised_last o) (find-independent names i d lt) ∙ rw (zeros_pass (drop (i + 1) o.counts) z) refl
 
+-- a name has no comma
 lacks_comma : (names : Declared) (i : ℕ) → IsDeclared names → i < names.independents → lacks 44 (name_numbered names i) ≡ true
 lacks_comma names i d lt = name_lacks 44 (name_numbered names i) refl (d.are_names i [] (omega (arith, d.independents_are))).bytes
 
+-- names that may come one after another are read
 derivations_complete : (names : Declared) (left : ℕ) (o : Operator) (i : ℕ) (is : List ℕ) → IsDeclared names → length is ≤ left → AreBelow names.independents (i ∷ is) → Rises o (i ∷ is)
     → derivations (suc left) names o (joined (codes ",") (map (name_numbered names) (i ∷ is))) ≡ Some (raised_by o (i ∷ is))
 unfolding derivations
@@ -266,6 +291,7 @@ derivations_complete names (suc left) o i (j ∷ is) d fits below rises =
     ∙ ap (option_and_then (λ o. more o others)) (name_taken names o i d below.0 rises.0)
     ∙ derivations_complete names left (raised o i) j is d (omega arith) below.1 rises.1
 
+-- the derivations of an operator are read, by its numbers
 derivations_of : (names : Declared) (o : Operator) (i : ℕ) (more : List ℕ) → IsDeclared names → IsOperatorOf names.independents o → sum o.counts ≤ 60 → indices 0 o.counts ≡ i ∷ more
     → derivations 60 names identity (derivations_text names o) ≡ Some o
 derivations_of names o i more d is fits e =
@@ -286,22 +312,26 @@ derivations_read names o d is fits proper =
     let f = first_of (indices 0 o.counts) (omega (arith, some, length-indices 0 o.counts)) in
     derivations_of names o f.0 f.1 d is fits f.2
 
+-- what is not read is no text of an operator, by whether it is -
 none_by : (names : Declared) (o : Operator) (text : List ℕ) (none minus : Bool) → IsDeclared names → IsOperatorOf names.independents o → sum o.counts ≤ 60 → is_identity o ≡ none → bytes_eq text (codes "-") ≡ minus
     → cond none (codes "-") (derivations_text names o) ≡ text → (if minus then Some identity else derivations 60 names identity text) ≡ None → ⊥
 none_by names o text none true d is fits i m e f = absurd cc
 none_by names o text true false d is fits i m e f = let same = (bytes_eq-Decides text (codes "-")).1 (sym e) in cc
 none_by names o text false false d is fits i m e f = let read = ap (derivations 60 names identity) (sym e) ∙ derivations_read names o d is fits i in cc
 
+-- what is not read is no text of an operator
 operator_none : (names : Declared) (text : List ℕ) → IsDeclared names → operator_at names text ≡ None → (o : Operator) → IsOperatorText names o text → ⊥
 unfolding operator_at operator_text
 operator_none names text d e o t = none_by names o text (is_identity o) (bytes_eq text (codes "-")) d t.operator t.order refl refl t.text_is e
 
 -- ---- what the reader promises
 
+-- the operator that is found
 pub when_found : (names : Declared) (text : List ℕ) (r : Option Operator) → IsDeclared names → r ≡ operator_at names text → IfSome r (λ o. IsOperatorText names o text)
 when_found names text None d e = tt
 when_found names text (Some o) d e = operator_found names text o d (sym e)
 
+-- where none is found
 pub when_none : (names : Declared) (text : List ℕ) (r : Option Operator) → IsDeclared names → r ≡ operator_at names text → IfNone r ((o : Operator) → IsOperatorText names o text → ⊥)
 when_none names text None d e = operator_none names text d (sym e)
 when_none names text (Some o) d e = tt

@@ -29,15 +29,18 @@ abbrev pub behind_marks : List ℕ → List (List ℕ) → List ℕ
 behind_marks mark [] = []
 behind_marks mark (text ∷ texts) = mark ++ (text ++ behind_marks mark texts)
 
+-- texts with a mark between them are the first one and the others, each behind a mark
 pub joined-cons : (mark text : List ℕ) (texts : List (List ℕ)) → joined mark (text ∷ texts) ≡ text ++ behind_marks mark texts
 joined-cons mark text [] = sym (append-nil text)
 joined-cons mark text (next ∷ more) = append_assoc text mark (joined mark (next ∷ more)) ∙ ap (λ (t : List ℕ). text ++ (mark ++ t)) (joined-cons mark next more)
 
 -- ---- what a name stands for
 
+-- the first index at which a test passes
 pub position_is : {X : Type 0} (p : X → Bool) (xs : List X) (i : ℕ) → i < length xs → position_or_len p xs ≡ i → position p xs ≡ Some i
 position_is p xs i lt e = let within : nat_lt i (length xs) ≡ true = grind (arith, nat_tests) in rw (e, within) refl
 
+-- a declared name stands for the symbol of its number
 find-name : (names : Declared) (i : ℕ) → IsDeclared names → i < length names.all → find names (name_numbered names i) ≡ symbol_numbered names.independents (Some i)
 unfolding find
 find-name names i is lt =
@@ -46,11 +49,13 @@ find-name names i is lt =
     let here = position_or_len_is (λ n. bytes_eq name n) names.all i [] (omega arith) earlier (λ _. nat_list_eq_equiv.refl name) in
     ap (symbol_numbered names.independents) (position_is (λ n. bytes_eq name n) names.all i lt here)
 
+-- the name of an independent
 pub find-independent : (names : Declared) (i : ℕ) → IsDeclared names → i < names.independents → find names (name_numbered names i) ≡ Some (Independent i)
 find-independent names i is lt =
     let below : nat_lt i names.independents ≡ true = grind (arith, nat_tests) in
     find-name names i is (omega (arith, is.independents_are)) ∙ rw below refl
 
+-- the name of a dependent
 pub find-dependent : (names : Declared) (u : ℕ) → IsDeclared names → u < dependents names → find names (name_numbered names (names.independents + u)) ≡ Some (plain u)
 find-dependent names u is lt =
     let above : nat_lt (names.independents + u) names.independents ≡ false = grind (arith, nat_tests) in
@@ -73,6 +78,7 @@ abbrev pub AreBelow : ℕ → List ℕ → Type 0
 AreBelow n [] = ⊤
 AreBelow n (i ∷ is) = (i < n) × AreBelow n is
 
+-- an independent at the front is read
 independent_read : (names : Declared) (i : ℕ) (text : List ℕ) → IsDeclared names → i < names.independents → front text ≡ Name → bytes_of text ≡ name_numbered names i
     → independent_at names text ≡ Ok i
 unfolding independent_at
@@ -96,10 +102,12 @@ one_name names left o i rest is lt stop =
 abbrev names_end : Declared → List ℕ → List ℕ → List ℕ
 names_end names is rest = behind_marks (codes ",") (map (name_numbered names) is) ++ (codes "]" ++ rest)
 
+-- what follows a name in brackets begins with no byte of a name
 names_end_stops : (names : Declared) (is : List ℕ) (rest : List ℕ) → begins is_name_byte (names_end names is rest) ≡ false
 names_end_stops names [] rest = refl
 names_end_stops names (i ∷ is) rest = refl
 
+-- names in brackets are read, each once more
 names_read : (names : Declared) (left : ℕ) (o : Operator) (i : ℕ) (is rest : List ℕ) → IsDeclared names → length is ≤ left → AreBelow names.independents (i ∷ is)
     → names_in (suc left) names o (skip_from false (name_numbered names i ++ names_end names is rest)) ≡ Ok (raised_by o (i ∷ is), skip_from false rest)
 names_read names left o i [] rest d fits below =
@@ -129,17 +137,21 @@ abbrev pub indices : ℕ → List ℕ → List ℕ
 indices k [] = []
 indices k (count ∷ counts) = times k count (indices (suc k) counts)
 
+-- all numbers are zero
 abbrev pub Zeros : List ℕ → Type 0
 Zeros ks = All (λ k. k ≡ 0) ks
 
+-- no independent stands where no exponent is positive
 pub indices-zeros : (k : ℕ) (counts : List ℕ) → Zeros counts → indices k counts ≡ []
 indices-zeros k [] z = refl
 indices-zeros k (c ∷ counts) z = rw (All-head (λ k. k ≡ 0) c counts z) (indices-zeros (suc k) counts (All-tail (λ k. k ≡ 0) c counts z))
 
+-- copies of a name are names of copies
 copies-map : (f : ℕ → List ℕ) (k count : ℕ) (is : List ℕ) → copies (f k) count (map f is) ≡ map f (times k count is)
 copies-map f k zero is = refl
 copies-map f k (suc count) is = ap (λ (names : List (List ℕ)). f k ∷ names) (copies-map f k count is)
 
+-- repeated names are names of repeated numbers
 repeated-map : (f : ℕ → List ℕ) (names : List (List ℕ)) (k : ℕ) (counts : List ℕ) → ((j : ℕ) → j < length names → get_or names j [] ≡ f (k + j)) → Zeros (drop (length names) counts)
     → repeated names counts ≡ map f (indices k counts)
 repeated-map f [] k counts at z = rw (indices-zeros k counts z) refl
@@ -149,18 +161,22 @@ repeated-map f (name ∷ names) k (count ∷ counts) at z =
     let more = repeated-map f names (suc k) counts (λ j lt. at (suc j) (omega arith) ∙ ap f (omega arith)) z in
     rw (here, more) (copies-map f k count (indices (suc k) counts))
 
+-- how many numbers there are with copies of one
 length-times : (i count : ℕ) (is : List ℕ) → length (times i count is) ≡ count + length is
 length-times i zero is = omega arith
 length-times i (suc count) is = omega (arith, length-times i count is)
 
+-- as many as the exponents add up to
 pub length-indices : (k : ℕ) (counts : List ℕ) → length (indices k counts) ≡ sum counts
 length-indices k [] = refl
 length-indices k (count ∷ counts) = omega (arith, length-times k count (indices (suc k) counts), length-indices (suc k) counts, sum_by-cons (λ x. x) count counts)
 
+-- copies of a number below a bound are below it
 times_below : (n i count : ℕ) (is : List ℕ) → i < n → AreBelow n is → AreBelow n (times i count is)
 times_below n i zero is lt below = below
 times_below n i (suc count) is lt below = (lt, times_below n i count is lt below)
 
+-- the numbers are those of independents
 pub indices_below : (m k : ℕ) (counts : List ℕ) → Zeros (drop m counts) → AreBelow (k + m) (indices k counts)
 indices_below zero k counts z = rw (indices-zeros k counts z) tt
 indices_below (suc m) k [] z = tt
@@ -168,9 +184,11 @@ indices_below (suc m) k (count ∷ counts) z =
     let sums : suc k + m ≡ k + suc m = omega arith in
     times_below (k + suc m) k count (indices (suc k) counts) (omega arith) (subst (λ (n : ℕ). AreBelow n (indices (suc k) counts)) sums (indices_below m (suc k) counts z))
 
+-- once more at a place
 pub raised_at : (done : List ℕ) (k x : ℕ) (more : List ℕ) → length done ≡ k → raised (record { counts = done ++ x ∷ more }) k ≡ record { counts = done ++ (x + 1) ∷ more }
 raised_at done k x more e = ap (λ (counts : List ℕ). record { counts = counts }) (rw (get_or_at done x more 0 k e) (set_at done x more (x + 1) k e))
 
+-- so often more at a place
 raised_by-times : (done : List ℕ) (k count x : ℕ) (more is : List ℕ) → length done ≡ k
     → raised_by (record { counts = done ++ x ∷ more }) (times k count is) ≡ raised_by (record { counts = done ++ (x + count) ∷ more }) is
 raised_by-times done k zero x more is e = ap (λ (y : ℕ). raised_by (record { counts = done ++ y ∷ more }) is) (omega arith)
@@ -179,6 +197,7 @@ raised_by-times done k (suc count) x more is e =
     ∙ raised_by-times done k count (x + 1) more is e
     ∙ ap (λ (y : ℕ). raised_by (record { counts = done ++ y ∷ more }) is) (omega arith)
 
+-- the exponents from a place on, taken one by one
 raised_by-indices : (done : List ℕ) (k : ℕ) (counts : List ℕ) → length done ≡ k → raised_by (record { counts = done ++ replicate (length counts) 0 }) (indices k counts) ≡ record { counts = done ++ counts }
 raised_by-indices done k [] e = refl
 raised_by-indices done k (count ∷ counts) e =
@@ -213,11 +232,13 @@ derivations_text-cons names o i more rest d is e =
     rw (repeated-names names o d is, e) (joined-cons (codes ",") (name_numbered names i) others) in
     ap (λ (text : List ℕ). text ++ (codes "]" ++ rest)) texts ∙ append_assoc (name_numbered names i) (behind_marks (codes ",") others) (codes "]" ++ rest)
 
+-- its numbers, taken one by one, make an operator
 pub operator_is : (o : Operator) (is : List ℕ) (n : ℕ) → IsOperatorOf n o → indices 0 o.counts ≡ is → raised_by identity is ≡ o
 operator_is o is n fits e =
     let four : identity ≡ record { counts = replicate (length o.counts) 0 } = rw fits.size refl in
     rw (four, ← e) (raised_by-indices [] 0 o.counts refl)
 
+-- an operator is read, by its numbers
 operator_by : (names : Declared) (o : Operator) (i : ℕ) (more rest : List ℕ) → IsDeclared names → IsOperatorOf names.independents o → sum o.counts ≤ 60 → indices 0 o.counts ≡ i ∷ more
     → names_in 60 names identity (skip_from false (derivations_text names o ++ (codes "]" ++ rest))) ≡ Ok (o, skip_from false rest)
 operator_by names o i more rest d is fits e =
@@ -246,9 +267,11 @@ sum_zero (count ∷ counts) none =
     let others : sum counts ≡ 0 = omega (arith, sums, none) in
     rw (here, ← sum_zero counts others) refl
 
+-- the operator whose exponents add up to zero
 identity_from_sum : (n : ℕ) (o : Operator) → IsOperatorOf n o → sum o.counts ≡ 0 → o ≡ identity
 identity_from_sum n o is none = ap (λ (counts : List ℕ). record { counts = counts }) (sum_zero o.counts none ∙ ap (λ (k : ℕ). replicate k 0) is.size)
 
+-- what is tested to take no derivation takes none
 pub identity_is : (n : ℕ) (o : Operator) → IsOperatorOf n o → is_identity o ≡ true → o ≡ identity
 identity_is n o is none = identity_from_sum n o is (grind (arith, nat_tests))
 
@@ -305,6 +328,7 @@ brackets_read names i u o inside rest d lt found read =
     ∙ on_ok (names_in 60 names identity (behind (behind text))) (o, skip_from false rest) (λ o. Ok (Derivative u o.0, o.1))
     (ap (λ (text : List ℕ). names_in 60 names identity text) (ap behind t.behind_is ∙ bracket.behind_is) ∙ read)
 
+-- a derivative, by whether it has brackets
 derivative_read : (names : Declared) (u : ℕ) (o : Operator) (none : Bool) (rest : List ℕ) → IsDeclared names → u < dependents names → IsOperatorOf names.independents o → sum o.counts ≤ 60
     → Ends rest → is_identity o ≡ none
     → symbol_at names (skip_from false ((name_numbered names (names.independents + u) ++ cond none [] (codes "[" ++ derivations_text names o ++ codes "]")) ++ rest))

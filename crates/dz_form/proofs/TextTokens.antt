@@ -22,10 +22,12 @@ begins test (b ∷ rest) = test b
 
 -- ---- the bytes at the front that pass a test
 
+-- no byte passes where the first one doesn't
 front_len-stop : (test : ℕ → Bool) (rest : List ℕ) → begins test rest ≡ false → front_len test rest ≡ 0
 front_len-stop test [] stop = refl
 front_len-stop test (b ∷ rest) stop = rw stop refl
 
+-- both parts of what holds together
 pub both_true : (a b : Bool) → (a && b) ≡ true → (a ≡ true) × (b ≡ true)
 both_true true b e = (refl, e)
 both_true false b e = absurd cc
@@ -42,6 +44,7 @@ not_either : (a b : Bool) → (a || b) ≡ false → b ≡ false
 not_either true b e = absurd cc
 not_either false b e = e
 
+-- what does not begin with a byte of a name does not begin with a digit
 pub begins_no_digit : (rest : List ℕ) → begins is_name_byte rest ≡ false → begins is_ascii_digit rest ≡ false
 begins_no_digit [] stop = refl
 begins_no_digit (b ∷ rest) stop = not_either (is_letter b) (is_ascii_digit b) stop
@@ -55,6 +58,7 @@ pub record IsToken (t : Token) (bytes rest : List ℕ) : Type 0 where
   pub behind_is : behind (bytes ++ rest) ≡ skip_from false rest
   pub stands : skip_from false (bytes ++ rest) ≡ bytes ++ rest
 
+-- a token, by its size
 token_from : (t : Token) (bytes rest : List ℕ) → token_of (bytes ++ rest) ≡ (t, length bytes) → skip_from false (bytes ++ rest) ≡ bytes ++ rest → IsToken t bytes rest
 unfolding front bytes_of behind
 token_from t bytes rest is stands = record {
@@ -66,40 +70,49 @@ token_from t bytes rest is stands = record {
 
 -- ---- marks
 
+-- a comma
 pub comma : (rest : List ℕ) → IsToken Comma (codes ",") rest
 unfolding token_of
 comma rest = token_from Comma (codes ",") rest refl refl
 
+-- an opening bracket
 pub open_bracket : (rest : List ℕ) → IsToken OpenBracket (codes "[") rest
 unfolding token_of
 open_bracket rest = token_from OpenBracket (codes "[") rest refl refl
 
+-- a closing bracket
 pub close_bracket : (rest : List ℕ) → IsToken CloseBracket (codes "]") rest
 unfolding token_of
 close_bracket rest = token_from CloseBracket (codes "]") rest refl refl
 
+-- the mark of an exponent
 pub caret : (rest : List ℕ) → IsToken Caret (codes "^") rest
 unfolding token_of
 caret rest = token_from Caret (codes "^") rest refl refl
 
+-- the mark of a product
 pub star : (rest : List ℕ) → IsToken Star (codes "*") rest
 unfolding token_of
 star rest = token_from Star (codes "*") rest refl refl
 
+-- the sign of a sum
 pub plus : (rest : List ℕ) → IsToken Plus (codes "+") rest
 unfolding token_of
 plus rest = token_from Plus (codes "+") rest refl refl
 
+-- the sign of a difference
 pub minus : (rest : List ℕ) → IsToken Minus (codes "-") rest
 unfolding token_of
 minus rest = token_from Minus (codes "-") rest refl refl
 
+-- the end of the text
 pub nothing : front [] ≡ Nothing
 unfolding front token_of
 nothing = refl
 
 -- ---- names
 
+-- a letter is no separator, and begins no comment
 skip_from-letter : (b : ℕ) (rest : List ℕ) → is_letter b ≡ true → skip_from false (b ∷ rest) ≡ b ∷ rest
 skip_from-letter b rest letter = grind (arith, nat_tests)
 
@@ -116,9 +129,11 @@ name_token (b ∷ name) rest is stop =
 
 -- ---- numbers
 
+-- nor does a digit
 skip_from-digit : (b : ℕ) (rest : List ℕ) → is_ascii_digit b ≡ true → skip_from false (b ∷ rest) ≡ b ∷ rest
 skip_from-digit b rest digit = grind (arith, nat_tests)
 
+-- a digit is no letter
 digit_no_letter : (b : ℕ) → is_ascii_digit b ≡ true → is_letter b ≡ false
 digit_no_letter b digit = grind (arith, nat_tests)
 
@@ -128,16 +143,20 @@ record Spells (n : ℕ) (digits : List ℕ) : Type 0 where
   value : number_from 0 digits ≡ n
   some : 0 < length digits
 
+-- the number with one digit more
 number_from-push : (value : ℕ) (digits : List ℕ) (digit : ℕ) → number_from value (digits ++ digit ∷ []) ≡ more_digits (number_from value digits) digit
 number_from-push value [] digit = refl
 number_from-push value (d ∷ digits) digit = number_from-push (more_digits value d) digits digit
 
+-- what is written for a number below ten is a digit
 digit_passes : (n : ℕ) → n < 10 → is_ascii_digit (48 + n) ≡ true
 digit_passes n lt = grind (arith, nat_tests)
 
+-- one digit
 one_spells : (n : ℕ) → n < 10 → Spells n ((48 + n) ∷ [])
 one_spells n lt = record { are_digits = rw (digit_passes n lt) refl; value = omega arith; some = omega arith }
 
+-- one digit more
 more_spells : (n : ℕ) (digits : List ℕ) → 10 ≤ n → Spells (n / 10) digits → Spells n (digits ++ (48 + n % 10) ∷ [])
 more_spells n digits le s = record {
   are_digits = rw (list_all-append, s.are_digits, digit_passes (n % 10) (omega arith)) refl;
@@ -145,9 +164,11 @@ more_spells n digits le s = record {
   some = omega (arith, length_push digits (48 + n % 10));
 }
 
+-- the decimal text of a number spells it
 decimal_spells : (n : ℕ) → n < 10 ^ 64 → Spells n (decimal n)
 decimal_spells = decimal_by_steps_wide Spells one_spells more_spells
 
+-- digits, and behind them no byte of a name
 digits_token : (digits rest : List ℕ) → list_all is_ascii_digit digits ≡ true → 0 < length digits → begins is_name_byte rest ≡ false → IsToken Number digits rest
 digits_token [] rest all some stop = absurd (omega arith)
 digits_token (b ∷ digits) rest all some stop =

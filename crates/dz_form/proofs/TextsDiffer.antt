@@ -18,6 +18,7 @@ one_read A x y rest r e f = ap (λ (p : A × List ℕ). p.0) (ok_is (x, rest) (y
 
 -- ---- symbols
 
+-- symbols with one text are one
 pub symbol_text-injective : (names : Declared) (s t : Symbol) → IsDeclared names → BelongsTo (signature_of names) s → BelongsTo (signature_of names) t → total_order s ≤ 60 → total_order t ≤ 60
     → symbol_text names s ≡ symbol_text names t → s ≡ t
 symbol_text-injective names s t d in_s in_t order_s order_t e =
@@ -31,6 +32,7 @@ no_names_at_minus : (names : Declared) (o : Operator) (rest : List ℕ) → name
 unfolding names_in independent_at front token_of
 no_names_at_minus names o rest e = cc
 
+-- operators with one text are one, by whether each is the identity
 operators_by : (names : Declared) (o p : Operator) (none nothing : Bool) → IsDeclared names → IsOperatorOf names.independents o → IsOperatorOf names.independents p
     → sum o.counts ≤ 60 → sum p.counts ≤ 60 → is_identity o ≡ none → is_identity p ≡ nothing
     → cond none (codes "-") (derivations_text names o) ≡ cond nothing (codes "-") (derivations_text names p) → o ≡ p
@@ -45,6 +47,7 @@ operators_by names o p false false d of_o of_p order_o order_p i j e =
     let same = ap (λ (text : List ℕ). names_in 60 names identity (skip_from false (text ++ codes "]"))) e in
     one_read Operator o p [] (names_in 60 names identity (skip_from false (derivations_text names o ++ codes "]"))) (operator_read names o [] d of_o order_o i) (same ∙ operator_read names p [] d of_p order_p j)
 
+-- operators with one text are one
 pub operator_text-injective : (names : Declared) (o p : Operator) → IsDeclared names → IsOperatorOf names.independents o → IsOperatorOf names.independents p → sum o.counts ≤ 60 → sum p.counts ≤ 60
     → operator_text names o ≡ operator_text names p → o ≡ p
 unfolding operator_text

@@ -16,6 +16,7 @@ use Rattle.dz_syntax.specs.Names.{Declared, IsDeclared, IsName, IsUnreserved, Ha
 
 -- ---- declared names
 
+-- a list of one name
 one_name : (name : List ℕ) → IsName name → All (λ name. IsName name) (name ∷ [])
 one_name name is zero d lt = is
 one_name name is (suc i) d lt = absurd (omega arith)
@@ -50,6 +51,7 @@ declared_is Dependents names name is n new room = record {
 
 -- ---- the bytes of a name token
 
+-- one byte more, by whether it passes
 passes_by : (test : ℕ → Bool) (b : ℕ) (rest : List ℕ) (passes : Bool) → test b ≡ passes → list_all test (take (front_len test rest) rest) ≡ true
     → list_all test (take (if passes then front_len test rest + 1 else 0) (b ∷ rest)) ≡ true
 passes_by test b rest false e more = refl
@@ -76,27 +78,33 @@ pub token_of-mark : (b : ℕ) (rest : List ℕ) → is_letter b ≡ false → is
 unfolding token_of
 token_of-mark b rest e f = rw (e, f) refl
 
+-- a mark is no name
 mark_is_no_name : (b : ℕ) → mark_of b ≡ Name → ⊥
 mark_is_no_name b e = grind arith
 
+-- nor is it with its size
 sized_is_no_name : (t : Token) → (t ≡ Name → ⊥) → (sized t).0 ≡ Name → ⊥
 sized_is_no_name Bad isnt e = cc
 sized_is_no_name t isnt e = isnt e
 
+-- nor is !=
 differs_is_no_name : (rest : List ℕ) → (differs_or_bad rest).0 ≡ Name → ⊥
 differs_is_no_name [] e = cc
 differs_is_no_name (b ∷ rest) e = grind arith
 
+-- a choice between two that are no names is none
 either_no_name : (c : Bool) (x y : Token × ℕ) → (x.0 ≡ Name → ⊥) → (y.0 ≡ Name → ⊥) → (if c then x else y).0 ≡ Name → ⊥
 either_no_name true x y isnt other e = isnt e
 either_no_name false x y isnt other e = other e
 
+-- what begins with no letter and no digit is no name
 mark_at_no_name : (b : ℕ) (rest : List ℕ) → (mark_at b rest).0 ≡ Name → ⊥
 mark_at_no_name b rest = either_no_name (b == 33) (differs_or_bad rest) (sized (mark_of b)) (differs_is_no_name rest) (sized_is_no_name (mark_of b) (mark_is_no_name b))
 
 letter_begins : (b : ℕ) (rest : List ℕ) → is_letter b ≡ true → begins_with_letter (take (front_len is_name_byte (b ∷ rest)) (b ∷ rest)) ≡ true
 letter_begins b rest e = let name : is_name_byte b ≡ true = rw e refl in rw (name, add-one) e
 
+-- the bytes of a name token, by its first byte
 name_if : (b : ℕ) (rest : List ℕ) (letter digit : Bool) → is_letter b ≡ letter → is_ascii_digit b ≡ digit → front (b ∷ rest) ≡ Name → IsName (bytes_of (b ∷ rest))
 unfolding front bytes_of IsUnreserved
 name_if b rest true digit is d e =
