@@ -144,7 +144,7 @@ module _ (g : Symbols rank.Symbol) where
 pub one_more : (old new : BookValue) (p : Polynomial rank.Symbol) → new.ranking ≡ old.ranking → values_in new ≡ p ∷ values_in old → new ≡ record { ranking = old.ranking; polynomials = old.polynomials ++ p ∷ [] }
 one_more old new p ranking e =
     let polynomials : new.polynomials ≡ old.polynomials ++ p ∷ [] =
-      sym (reverse-reverse new.polynomials) ∙ ap reverse e ∙ reverse-append (p ∷ []) (reverse old.polynomials) ∙ ap (λ ps. ps ++ p ∷ []) (reverse-reverse old.polynomials) in
+    sym (reverse-reverse new.polynomials) ∙ ap reverse e ∙ reverse-append (p ∷ []) (reverse old.polynomials) ∙ ap (λ ps. ps ++ p ∷ []) (reverse-reverse old.polynomials) in
     ap (λ r. record { ranking = r; polynomials = new.polynomials }) ranking ∙ ap (λ ps. record { ranking = old.ranking; polynomials = ps }) polynomials
 
 -- the number of that polynomial
@@ -153,10 +153,11 @@ pub expanded : (old new : BookValue) (k : ℕ) (p : Polynomial rank.Symbol) (ans
 expanded old new k p answer is e value =
     let size : length new.polynomials ≡ length old.polynomials + 1 = ap (λ (b : BookValue). length b.polynomials) is ∙ length-append old.polynomials (p ∷ []) in
     let number : k ≡ length old.polynomials = omega arith in
-    let means : Means new k p = subst (λ (b : BookValue). Means b k p) (sym is) (subst (λ n. slice_get (old.polynomials ++ p ∷ []) n ≡ Some p) (sym number) (last_there old.polynomials)) in
-    (subst (Gives new (Ok k)) (sym value) means,
-    subst (IsKept old) (sym is) (IsKept-append old.ranking old.polynomials (p ∷ [])),
-    record { number = number; last = ap (λ (b : BookValue). b.polynomials) is ∙ ap (λ q. old.polynomials ++ q ∷ []) (sym (means_polynomial new k p means)) })
+    let means : Means new k p = subst (λ (b : BookValue). Means b k p) (sym is) (subst (λ n. slice_get (old.polynomials ++ p ∷ []) n ≡ Some p) (sym number) (last_there old.polynomials)) in (
+      subst (Gives new (Ok k)) (sym value) means,
+      subst (IsKept old) (sym is) (IsKept-append old.ranking old.polynomials (p ∷ [])),
+      record { number = number; last = ap (λ (b : BookValue). b.polynomials) is ∙ ap (λ q. old.polynomials ++ q ∷ []) (sym (means_polynomial new k p means)) },
+    )
   where
     last_there : (xs : Polynomials) → slice_get (xs ++ p ∷ []) (length xs) ≡ Some p
     last_there [] = refl
@@ -209,7 +210,7 @@ module _ (old now : BookValue) (all items : List Op) (i : ℕ) (values : Polynom
       let op = slice_index_or items i d in
       let split : drop i items ≡ op ∷ drop (i + 1) items = drop_more items i d more in
       let size : length now.polynomials ≡ length old.polynomials + length values =
-        ap length (polynomials_above old now values above) ∙ length-append old.polynomials (reverse values) ∙ ap (λ n. length old.polynomials + n) (length-reverse values) in
+      ap length (polynomials_above old now values above) ∙ length-append old.polynomials (reverse values) ∙ ap (λ n. length old.polynomials + n) (length-reverse values) in
       enough_more op (length values) (length now.polynomials) (omega arith) (enough (length values) op (drop (i + 1) items) 1 (subst (λ steps. values_after (length values) steps ≡ Some 1) split count))
 
   -- no step is left

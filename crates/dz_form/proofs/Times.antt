@@ -82,9 +82,10 @@ pub kept_but_one : (old made new : BookValue) (mark p : ℕ) → mark ≡ length
 kept_but_one old made new mark p e kept is =
     let front : take mark made.polynomials ≡ old.polynomials = ap (λ n. take n made.polynomials) e ∙ kept.front in
     let whole : new ≡ record { ranking = old.ranking; polynomials = old.polynomials ++ polynomial made p ∷ [] } =
-      is ∙ ap (λ r. record { ranking = r; polynomials = take mark made.polynomials ++ polynomial made p ∷ [] }) kept.ranking ∙ ap (λ ps. record { ranking = old.ranking; polynomials = ps ++ polynomial made p ∷ [] }) front in
-    (subst (IsKept old) (sym whole) (IsKept-append old.ranking old.polynomials (polynomial made p ∷ [])),
-    subst (λ (b : BookValue). slice_get b.polynomials mark ≡ Some (polynomial made p)) (sym whole) (rw e (last_there old.polynomials (polynomial made p))))
+    is ∙ ap (λ r. record { ranking = r; polynomials = take mark made.polynomials ++ polynomial made p ∷ [] }) kept.ranking ∙ ap (λ ps. record { ranking = old.ranking; polynomials = ps ++ polynomial made p ∷ [] }) front in (
+      subst (IsKept old) (sym whole) (IsKept-append old.ranking old.polynomials (polynomial made p ∷ [])),
+      subst (λ (b : BookValue). slice_get b.polynomials mark ≡ Some (polynomial made p)) (sym whole) (rw e (last_there old.polynomials (polynomial made p))),
+    )
   where
     last_there : (xs : Polynomials) (x : Polynomial Symbol) → slice_get (xs ++ x ∷ []) (length xs) ≡ Some x
     last_there [] x = refl
@@ -110,11 +111,12 @@ pub times_turn : (old now made new : BookValue) (base product next mark count at
     → (r : Polynomial Symbol) × Means new mark r × (times (symbols_under old.ranking) (polynomial old base) (count - (at + 1)) r ≡ total) × IsKept old new
 times_turn old now made new base product next mark count at q total inside means whole kept e more kept' given is =
     let answer = answered made next _ given in
-    let there = kept_but_one old made new mark next e (kept_trans old now made kept kept') is in
-    (answer.0,
-    subst (Means new mark) (means_polynomial made next answer.0 answer.1) there.1,
-    times_more (symbols_under old.ranking) (polynomial old base) count at q answer.0 total more (sym (same_product old now base product q inside means kept) ∙ answer.2) whole,
-    there.0)
+    let there = kept_but_one old made new mark next e (kept_trans old now made kept kept') is in (
+      answer.0,
+      subst (Means new mark) (means_polynomial made next answer.0 answer.1) there.1,
+      times_more (symbols_under old.ranking) (polynomial old base) count at q answer.0 total more (sym (same_product old now base product q inside means kept) ∙ answer.2) whole,
+      there.0,
+    )
 
 -- a product of the loop is refused
 pub turn_refused : (old now : BookValue) (base product count at : ℕ) (q : Polynomial Symbol) (stop : PolyStop) (total : Result (Polynomial Symbol) Refusal) → Lives old base → Means now product q

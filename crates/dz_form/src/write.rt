@@ -240,7 +240,11 @@ fn push_poly(into: &mut Vec<u8>, names: &Names, book: &Book, p: Poly) -> Result<
 }
 
 /// Appends the canonical text of an operator. On a refusal `into` is as before.
-pub fn write_operator(operator: Operator, names: &Names, into: &mut Vec<u8>) -> Result<(), AllocError>
+pub fn write_operator(
+    operator: Operator,
+    names: &Names,
+    into: &mut Vec<u8>,
+) -> Result<(), AllocError>
     requires { IsOperatorOf names.now.independents operator }
     ensures written { OnOk result (into.new.items ≡ into.old.items ++ operator_text names.now operator) }
     ensures refused { OnErr result (into.new.items ≡ into.old.items) }

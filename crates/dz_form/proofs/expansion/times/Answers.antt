@@ -24,7 +24,7 @@ pub factors-preserved : goal.factors-preserved
 factors-preserved c =
     let i = c.factors.invariant in
     let turn = times_turn c.args.book.now c.factors.book c.mul.new.book c.restore_but-product.new.self c.args.base c.factors.product c.in-Ok.next c.mark-mark.result c.args.count c.factors.counter i.0 _
-          c.requires i.1 i.2 i.3 i.4 c.factors-test.true c.in-Ok.ensures.kept c.in-Ok.ensures.product c.restore_but-product.ensures.book in
+    c.requires i.1 i.2 i.3 i.4 c.factors-test.true c.in-Ok.ensures.kept c.in-Ok.ensures.product c.restore_but-product.ensures.book in
     let older : c.args.base ≤ c.mark-mark.result = omega (arith, i.4, c.requires) in
     (turn.0, rw c.restore_but-product.ensures.name turn.1, turn.2, turn.3, i.4, rw c.restore_but-product.ensures.name older)
 
