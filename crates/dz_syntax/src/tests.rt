@@ -229,6 +229,17 @@ fn is_system_fault(alloc: Global, text: &[u8], form: Form, place: usize, kind: S
     is_fault(read_system(alloc, text, form), place, kind)
 }
 
+/// Whether the system with these values has this fault.
+fn is_value_fault(
+    alloc: Global,
+    values: &[u8],
+    place: usize,
+    kind: SyntaxKind,
+) -> Result<bool, AllocError> {
+    let text = repeated(alloc, VALUED, 1, values, b"")?;
+    Ok(is_system_fault(alloc, &text, Form::Values, place, kind))
+}
+
 /// The tree of a text that is a system.
 fn tree_of_text(alloc: Global, text: &[u8], form: Form) -> Option<SystemTree> {
     read_system(alloc, text, form).ok()
@@ -252,13 +263,13 @@ fn repeated(
 
 /// The place and the kind of the fault of a text of one byte.
 fn fault_of_byte(byte: u8) -> (usize, SyntaxKind) {
-    if b" \t\r\n#".contains(&byte) {
-        return (1, SyntaxKind::Unexpected);
+    match byte {
+        b' ' | b'\t' | b'\r' | b'\n' | b'#' => (1, SyntaxKind::Unexpected),
+        b'A'..=b'Z' | b'a'..=b'z' | b'0'..=b'9' | b'_' => (0, SyntaxKind::Unexpected),
+        b';' | b',' | b'[' | b']' | b'(' | b')' => (0, SyntaxKind::Unexpected),
+        b'+' | b'-' | b'*' | b'^' | b'=' | b'/' => (0, SyntaxKind::Unexpected),
+        _ => (0, SyntaxKind::BadByte),
     }
-    if byte.is_ascii_alphanumeric() || b"_;,[]()+-*^=/".contains(&byte) {
-        return (0, SyntaxKind::Unexpected);
-    }
-    (0, SyntaxKind::BadByte)
 }
 
 /// Whether the names are those that the system declares, in its order.
@@ -295,6 +306,23 @@ fn has_steps(item: Option<&Item>, steps: &[Op]) -> bool {
         Some(item) => item.steps() == steps,
         None => false,
     }
+}
+
+/// Whether the names and the blocks are those of the system.
+fn is_declared(tree: &SystemTree) -> bool {
+    tree.signature.independents == 2
+        && tree.signature.dependents == 3
+        && are_named(&tree.names)
+        && are_found(&tree.names)
+        && are_blocks(tree)
+}
+
+/// Whether there are as many equations and inequations as in the system, and the first is right.
+fn are_items(tree: &SystemTree) -> bool {
+    let steps = [Op::Symbol(Z_T), Op::Symbol(Y), Op::Sub];
+    tree.equations.len() == 2
+        && tree.inequations.len() == 1
+        && has_steps(tree.equations.first(), &steps)
 }
 
 /// Whether a value is this symbol's, and this fraction.
@@ -380,8 +408,7 @@ fn faults_of_systems(rt: HostRuntime) -> Result<(), Fail> {
 fn faults_of_values(rt: HostRuntime) -> Result<(), Fail> {
     let alloc = rt.alloc();
     for (text, place, kind) in VALUE_FAULTS {
-        let whole = repeated(alloc, VALUED, 1, text, b"")?;
-        assert!(rt; is_system_fault(alloc, &whole, Form::Values, place, kind));
+        assert!(rt; is_value_fault(alloc, text, place, kind)?);
     }
     Ok(())
 }
@@ -401,12 +428,8 @@ fn a_plain_tree(rt: HostRuntime) -> Result<(), Fail> {
     let alloc = rt.alloc();
     let text = repeated(alloc, SYSTEM, 1, b"end # all\n ", b"")?;
     let tree = tree_of_text(alloc, &text, Form::Plain).ok_or("plain")?;
-    assert!(rt; tree.signature.independents == 2 && tree.signature.dependents == 3);
-    assert!(rt; are_named(&tree.names) && are_found(&tree.names));
-    assert!(rt; are_blocks(&tree));
-    assert!(rt; tree.equations.len() == 2 && tree.inequations.len() == 1);
-    let steps = [Op::Symbol(Z_T), Op::Symbol(Y), Op::Sub];
-    assert!(rt; has_steps(tree.equations.first(), &steps));
+    assert!(rt; is_declared(&tree));
+    assert!(rt; are_items(&tree));
     assert!(rt; tree.document == 0);
     Ok(())
 }
