@@ -10,7 +10,7 @@ use Rattle.dz_syntax.specs.Systems.{Tree, system_of}
 use Rattle.dz_run.specs.declared.ending.Ending.{Ending}
 use Rattle.dz_run.specs.declared.ending.Ending.TheVariants.{Done, Syntax, Wide, Large, NotBuilt}
 use Rattle.dz_run.specs.Document.{ChainTexts, document}
-use Rattle.dz_run.specs.Root.{Root, chain, closed, root, tree_of_root}
+use Rattle.dz_run.specs.Root.{Root, chain, closed, root_of, tree_of_root}
 use Rattle.dz_run.specs.declared.system.Refused.{Refused}
 use Rattle.dz_run.specs.declared.system.Refused.TheVariants as refusals
 use Rattle.dz_run.specs.declared.answer.Told.{Told}
@@ -59,7 +59,7 @@ built_answer names (Some tree) = record { output = document_of names tree; endin
 -- the tree of one line for a system of a text: it is built with at most one independent
 unfoldable pub built : Tree → System → Option Root
 built tree s =
-    if nat_le tree.signature.independents 1 then tree_of_root (symbols_under (ranking_of tree)) (root (symbols_under (ranking_of tree)) s) else None
+    if nat_le tree.signature.independents 1 then tree_of_root (symbols_under (ranking_of tree)) (root_of (symbols_under (ranking_of tree)) s) else None
 
 -- the answer for the system of a text, or for the item for which there is none
 abbrev pub system_told : Tree → Result System Refused → Answer

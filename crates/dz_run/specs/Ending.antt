@@ -1,5 +1,5 @@
 -- How a run ends: its status, and its message.
-use Rattle.std.specs.Prelude.{ℕ, List, [], ◌++◌, codes, ⊤, ⊥}
+use Rattle.std.specs.Prelude.{ℕ, List, [], ◌++◌, codes, ⊤}
 use Rattle.std.specs.Fmt.{decimal}
 use Rattle.dz_syntax.specs.declared.fault.SyntaxFault.{SyntaxFault}
 use Rattle.dz_syntax.specs.Faults.{text_of}

@@ -1,5 +1,5 @@
 -- The root of a system, and the tree of one line for a root that needs no work (this project).
-use Rattle.std.specs.Prelude.{◌≡◌, ◌≢◌, ⊤, ⊥, ℕ, ◌==◌, ◌&&◌, ◌||◌, nat_le, not, Bool, true, false, if◌then◌else◌, List, [], ◌∷◌, ◌++◌, length, All, ℤ, pos, negsuc, Option, Some, None}
+use Rattle.std.specs.Prelude.{◌≡◌, ◌≢◌, ⊤, ℕ, ◌==◌, ◌&&◌, ◌||◌, nat_le, not, Bool, true, false, if◌then◌else◌, List, [], ◌∷◌, ◌++◌, length, All, ℤ, pos, negsuc, Option, Some, None}
 use Rattle.std.specs.declared.cmp.Ordering.{Ordering}
 use Rattle.std.specs.declared.cmp.Ordering.TheVariants.{Equal}
 use Rattle.dz_algebra.specs.Domain.{Operations}
@@ -61,8 +61,8 @@ kept_norms g group kept [] = kept
 kept_norms g group kept (p ∷ ps) =
     if is_dropped g group (norm p) || is_member g (norm p) kept then kept_norms g group kept ps else kept_norms g group (kept ++ norm p ∷ []) ps
 
-unfoldable pub root : Symbols Symbol → System → System
-root g s = record { equations = kept_norms g Equation [] s.equations; inequations = kept_norms g Inequation [] s.inequations }
+unfoldable pub root_of : Symbols Symbol → System → System
+root_of g s = record { equations = kept_norms g Equation [] s.equations; inequations = kept_norms g Inequation [] s.inequations }
 
 -- ---- the tree of one line
 -- Its root is closed, or a chain with these equations and no inequation.
@@ -107,15 +107,15 @@ is_linear_in g p (Some v) =
 abbrev pub is_linear : Symbols Symbol → Polynomial Symbol → Bool
 is_linear g p = is_linear_in g p (leader g p)
 
--- a root without inequations and with at most one equation is at rest where that is linear
-abbrev pub resting : Symbols Symbol → System → Option Root
-resting g (record { equations = []; inequations = [] }) = Some (chain [])
-resting g (record { equations = p ∷ []; inequations = [] }) = if is_linear g p then Some (chain (p ∷ [])) else None
-resting g s = None
+-- a root with these equations and inequations is at rest where it has no inequation and at most one equation, a linear one
+abbrev pub resting : Symbols Symbol → Polynomials → Polynomials → Option Root
+resting g [] [] = Some (chain [])
+resting g (p ∷ []) [] = if is_linear g p then Some (chain (p ∷ [])) else None
+resting g es hs = None
 
 -- the tree of one line for a root: closed, or a chain where the root is at rest
 unfoldable pub tree_of_root : Symbols Symbol → System → Option Root
-tree_of_root g s = if is_closed g s then Some closed else resting g s
+tree_of_root g s = if is_closed g s then Some closed else resting g s.equations s.inequations
 
 -- a tree of the code is this one, or there is none
 abbrev pub IsTree : BookValue → Option Tree → Option Root → Type 0

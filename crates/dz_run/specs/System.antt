@@ -1,5 +1,5 @@
 -- The polynomials of a system, or the item for which there are none (this project).
-use Rattle.std.specs.Prelude.{◌≡◌, ⊤, ⊥, All, map, ℕ, ◌+◌, nat_lt, if◌then◌else◌, List, [], ◌∷◌, ◌++◌, length, codes, Result, Ok, Err}
+use Rattle.std.specs.Prelude.{◌≡◌, ⊤, All, map, ℕ, ◌+◌, nat_lt, if◌then◌else◌, List, [], ◌∷◌, ◌++◌, length, codes, Result, Ok, Err}
 use Rattle.std.specs.Fmt.{decimal}
 use Rattle.dz_algebra.specs.declared.Limit.{Limit}
 use Rattle.dz_algebra.specs.declared.Limit.TheVariants as limits
@@ -41,6 +41,11 @@ numbered group n (Err (large limit)) = Err (Large group n limit)
 abbrev pub before : Polynomial Symbol → Result Polynomials Refused → Result Polynomials Refused
 before p (Ok ps) = Ok (p ∷ ps)
 before p (Err e) = Err e
+
+-- values before an answer
+abbrev pub behind : Polynomials → Result Polynomials Refused → Result Polynomials Refused
+behind ps (Ok qs) = Ok (ps ++ qs)
+behind ps (Err e) = Err e
 
 -- the values of items, of which so many stand before these, or the first refusal
 abbrev pub items_answer : Symbols Symbol → Group → ℕ → List (List Op) → Result Polynomials Refused

@@ -8,8 +8,8 @@ ghost use Rattle.dz_run.specs.System.{LivesSystem, ranking_of, system_answer, sy
 
 use crate::document::{chain_document, closed_document};
 use crate::ending::Ending;
-use crate::root::{Tree, root, tree_of_root};
-use crate::system::{Refused, Stop, System, refused_line, system};
+use crate::root::{Tree, root_of, tree_of_root};
+use crate::system::{Refused, Stop, System, refused_line, system_of};
 use dz_poly::Book;
 use dz_rank::Ranking;
 use dz_syntax::{Form, Names, SyntaxKind, SystemTree, read_system};
@@ -71,7 +71,7 @@ fn built(alloc: Global, book: &mut Book, tree: &SystemTree, system: &System) -> 
     if tree.signature.independents > 1 {
         return Ok(None);
     }
-    let root = root(alloc, book, system)?;
+    let root = root_of(alloc, book, system)?;
     let tree = tree_of_root(book, root)?;
     Ok(tree)
 }
@@ -101,7 +101,7 @@ fn tree_told(alloc: Global, book: &mut Book, tree: &SystemTree) -> Result<Told, 
     requires signature { tree.now.signature ≡ signature_of tree.now.names }
     ensures { IfOk result (λ told. answer_of told ≡ system_told (tree_of tree.now) (system_answer (tree_of tree.now))) }
 {
-    let system = match system(alloc, book, tree) {
+    let system = match system_of(alloc, book, tree) {
         Ok(system) => system,
         Err(Stop::Memory) => return Err(AllocError),
         Err(Stop::Refused(refused)) => {

@@ -1,5 +1,5 @@
 // What the error output is told of how a run ended.
-ghost use Rattle.std.specs.Prelude.{◌≡◌, ◌≤◌, ⊥, [], ◌∷◌, map, OnErr, OnOk, IsErrOf};
+ghost use Rattle.std.specs.Prelude.{◌≡◌, ◌≤◌, [], ◌∷◌, map, OnErr, OnOk, IsErrOf};
 ghost use Rattle.std.specs.List.{concat};
 ghost use Rattle.std.specs.Io.KnownBytes.{Appends};
 ghost use Rattle.dz_outside.specs.Causes.{Rose};

@@ -1,11 +1,11 @@
 // The root of a system, and the tree of one line for a root that needs no work.
-ghost use Rattle.std.specs.Prelude.{◌≡◌, [], IfOk, OnOk, Some};
+ghost use Rattle.std.specs.Prelude.{◌≡◌, [], ◌∷◌, IfOk, OnOk, Some};
 ghost use Rattle.dz_algebra.specs.Parts.{is_ground, leader};
 ghost use Rattle.dz_poly.specs.Books.{IsKept, Lives, polynomial};
 ghost use Rattle.dz_poly.specs.Ranked.{symbols_under};
 ghost use Rattle.dz_rank.specs.Symbols.{is_derivative};
 ghost use Rattle.dz_run.specs.Root.{IsTree, is_dropped, is_linear, is_linear_in, is_member, is_one, is_unit, is_zero};
-ghost use Rattle.dz_run.specs.Root.{has_unit, has_zero, kept_norms, root, tree_of_root};
+ghost use Rattle.dz_run.specs.Root.{has_unit, has_zero, kept_norms, root_of, tree_of_root};
 ghost use Rattle.dz_run.specs.System.{LiveAll, LivesSystem, MeanAll, polynomials, system_in};
 
 use crate::system::{Group, System};
@@ -87,10 +87,12 @@ fn is_member(book: &Book, p: Poly, polys: &[Poly]) -> bool
     ensures { result ≡ is_member (symbols_under book.now.ranking) (polynomial book.now p)
         (polynomials book.now polys.now) }
 {
-    'members: for q in polys {
+    let mut rest = polys;
+    'members: while let [q, others @ ..] = rest {
         if same(book, p, *q) {
             return true;
         }
+        rest = others;
     }
     false
 }
@@ -107,6 +109,29 @@ fn is_dropped(book: &Book, group: Group, p: Poly) -> bool
     }
 }
 
+/// Puts the norm of a polynomial behind those that are kept, unless it is left out or stands there.
+fn keep_norm(
+    book: &mut Book,
+    group: Group,
+    p: Poly,
+    kept: &mut Vec<Poly>,
+) -> Result<(), AllocError>
+    requires lives { Lives book.old p }
+    requires all { LiveAll book.old kept.old.items }
+    ensures value { OnOk result (MeanAll book.new kept.new.items
+        (kept_norms (symbols_under book.old.ranking) group (polynomials book.old kept.old.items) (polynomial book.old p ∷ []))) }
+    ensures kept { OnOk result (IsKept book.old book.new) }
+{
+    let Ok(norm) = normalise(book, p) else {
+        return Err(AllocError);
+    };
+    if is_dropped(book, group, norm) || is_member(book, norm, kept) {
+        return Ok(());
+    }
+    kept.push(norm)?;
+    Ok(())
+}
+
 /// The norms of polynomials in their order, without those that are left out and without repeats.
 fn kept_norms(
     alloc: Global,
@@ -120,24 +145,21 @@ fn kept_norms(
     ensures kept { OnOk result (IsKept book.old book.new) }
 {
     let mut kept = Vec::new(alloc);
-    'polys: for p in polys {
-        let Ok(norm) = normalise(book, *p) else {
-            return Err(AllocError);
-        };
-        if !is_dropped(book, group, norm) && !is_member(book, norm, &kept) {
-            kept.push(norm)?;
-        }
+    let mut rest = polys;
+    'polys: while let [p, others @ ..] = rest {
+        keep_norm(book, group, *p, &mut kept)?;
+        rest = others;
     }
     Ok(kept)
 }
 
 /// The root of a system.
-#[tactic(auto, unfolding(crate::specs::Root::root))]
-pub(crate) fn root(alloc: Global, book: &mut Book, system: &System) -> Result<System, AllocError>
+#[tactic(auto, unfolding(crate::specs::Root::root_of))]
+pub(crate) fn root_of(alloc: Global, book: &mut Book, system: &System) -> Result<System, AllocError>
     requires { LivesSystem book.old system.now }
     ensures lives { IfOk result (λ s. LivesSystem book.new s) }
     ensures value { IfOk result (λ s. system_in book.new s
-        ≡ root (symbols_under book.old.ranking) (system_in book.old system.now)) }
+        ≡ root_of (symbols_under book.old.ranking) (system_in book.old system.now)) }
     ensures kept { OnOk result (IsKept book.old book.new) }
 {
     let equations = kept_norms(alloc, book, Group::Equation, &system.equations)?;
@@ -153,10 +175,12 @@ fn has_unit(book: &Book, polys: &[Poly]) -> bool
     requires { LiveAll book.now polys.now }
     ensures { result ≡ has_unit (symbols_under book.now.ranking) (polynomials book.now polys.now) }
 {
-    'polys: for p in polys {
+    let mut rest = polys;
+    'polys: while let [p, others @ ..] = rest {
         if is_unit(book, *p) {
             return true;
         }
+        rest = others;
     }
     false
 }
@@ -166,10 +190,12 @@ fn has_zero(book: &Book, polys: &[Poly]) -> bool
     requires { LiveAll book.now polys.now }
     ensures { result ≡ has_zero (polynomials book.now polys.now) }
 {
-    'polys: for p in polys {
+    let mut rest = polys;
+    'polys: while let [p, others @ ..] = rest {
         if is_zero(book, *p) {
             return true;
         }
+        rest = others;
     }
     false
 }

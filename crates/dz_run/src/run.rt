@@ -1,15 +1,13 @@
 // The top call.
-ghost use Rattle.std.specs.Prelude.{◌≡◌, ◌≢◌, ◌⊎◌, map, string_bytes, codes, true, false, IfOk, IfErr, ℕ};
-ghost use Rattle.dz_run.specs.declared.ending.Ending.{Ending};
-ghost use Rattle.dz_run.specs.declared.ending.Ending.TheVariants.{NotBuilt, NoMemory, WriteFault, WriteStuck};
-ghost use Rattle.dz_run.specs.Answer.{is_decompose};
-ghost use Rattle.dz_run.specs.Ending.{IsSilent, message_of, status_of};
+ghost use Rattle.std.specs.Prelude.{◌≡◌, ◌≢◌, ◌⊎◌, map, string_bytes, true, false, IfOk, IfErr, ℕ};
 ghost use Rattle.dz_domain.specs.Point.{FitsSignature};
-ghost use Rattle.dz_run.specs.Sum.{first_signature};
+ghost use Rattle.dz_run.specs.Answer.{answer_of, is_decompose};
+ghost use Rattle.dz_run.specs.Ending.{IsSilent, message_of, status_of};
 ghost use Rattle.dz_run.specs.Run.{Ends, IsAnswered, IsSolvedBy, IsTold, Input, Output, WritesAnswer};
 
-use crate::answer::{is_decompose, printed};
+use crate::answer::{Told, answer, is_decompose};
 use crate::ending::Ending;
+use crate::message::write_message;
 use dz_domain::{Domain, Point};
 use dz_outside::{ReadStop, Sink, Source, WriteStop, read_all, write_all};
 use std::alloc::Global;
@@ -17,11 +15,11 @@ use std::alloc::Global;
 /// The most bytes of an input.
 const MOST_BYTES: usize = 1_048_576;
 
-/// Reads the input, and makes what is to be printed for it.
-fn answer<S: Source>(alloc: Global, words: &[String], input: &mut S) -> Result<Vec<u8>, Ending>
-    ensures answered { IfOk result (λ output. IsAnswered (map string_bytes words.now)
+/// Reads the input, and makes the answer to it.
+fn input_answer<S: Source>(alloc: Global, words: &[String], input: &mut S) -> Result<Told, Ending>
+    ensures answered { IfOk result (λ told. IsAnswered (map string_bytes words.now)
         (record { rest = S.rest input.old; faults = S.faults input.old })
-        (record { rest = S.rest input.new; faults = S.faults input.new }) output.items) }
+        (record { rest = S.rest input.new; faults = S.faults input.new }) (answer_of told)) }
     ensures ended { (out : Output) → IfErr result (λ ending. Ends (map string_bytes words.now)
         (record { rest = S.rest input.old; faults = S.faults input.old })
         (record { rest = S.rest input.new; faults = S.faults input.new }) out out ending) }
@@ -37,11 +35,7 @@ fn answer<S: Source>(alloc: Global, words: &[String], input: &mut S) -> Result<V
         Err(ReadStop::Failed) => return Err(Ending::ReadFault),
         Err(ReadStop::TooLong) => return Err(Ending::TooLong),
     };
-    match printed(alloc, &bytes) {
-        Ok(Some(output)) => Ok(output),
-        Ok(None) => Err(Ending::NotBuilt),
-        Err(_) => Err(Ending::NoMemory),
-    }
+    answer(alloc, &bytes).map_err(|_| Ending::NoMemory)
 }
 
 /// Writes the answer on the output, where there is one to write.
@@ -66,12 +60,15 @@ fn run<S: Source, K: Sink>(alloc: Global, words: &[String], input: &mut S, out: 
     ensures silent { IsSilent result → out.new ≡ out.old }
     ensures unread { is_decompose (map string_bytes words.now) ≡ false → input.new ≡ input.old }
 {
-    let output = match answer(alloc, words, input) {
-        Ok(output) => output,
+    let told = match input_answer(alloc, words, input) {
+        Ok(told) => told,
         Err(ending) => return ending,
     };
-    match write_answer(out, &output) {
-        Ok(()) => Ending::Done,
+    if told.output.is_empty() {
+        return told.ending;
+    }
+    match write_answer(out, &told.output) {
+        Ok(()) => told.ending,
         Err(ending) => ending,
     }
 }
@@ -83,7 +80,7 @@ pub fn tell<L: Sink>(err: &mut L, ending: Ending) -> u8
         (record { written = L.written err.new; faults = L.faults err.new; stalls = L.stalls err.new }) (message_of ending) }
 {
     // A fault of the error output never changes the status.
-    let _ = write_all(err, ending.message());
+    let _ = write_message(err, ending);
     ending.status()
 }
 
@@ -105,14 +102,14 @@ pub fn blad_run<D: Domain, S: Source, K: Sink, L: Sink>(
         (record { written = K.written out.new; faults = K.faults out.new; stalls = K.stalls out.new }) ending
         × IsTold (record { written = L.written err.old; faults = L.faults err.old; stalls = L.stalls err.old })
         (record { written = L.written err.new; faults = L.faults err.new; stalls = L.stalls err.new }) (message_of ending) }
-    // At status 0 the equation that was read has, at a point that fits, value zero exactly where the point solves the tree
-    // whose document was printed; and no initial or separant of that tree has value zero there. This holds for every point
-    // of every differential domain that is handed in.
-    ensures solutions { result ≡ 0 → FitsSignature first_signature at.now → IsSolvedBy D.operations at.now
+    // At status 0 a point that fits solves the system that was read exactly where it solves the tree whose document was
+    // printed; and no initial or separant of that tree has value zero there. This holds for every point of every
+    // differential domain that is handed in.
+    ensures solutions { result ≡ 0 → IsSolvedBy D.operations at.now
         (record { rest = S.rest input.old; faults = S.faults input.old })
         (record { rest = S.rest input.new; faults = S.faults input.new }) (K.written out.old) (K.written out.new) }
     // Where nothing is to be written on the output, no write is called on it.
-    ensures silent { (result ≡ 7) ⊎ (result ≡ 9) ⊎ (result ≡ 11) ⊎ (result ≡ 12) → out.new ≡ out.old }
+    ensures silent { (result ≡ 3) ⊎ (result ≡ 7) ⊎ (result ≡ 9) ⊎ (result ≡ 11) ⊎ (result ≡ 12) → out.new ≡ out.old }
     // Words that are not built are answered before anything is read.
     ensures unread { is_decompose (map string_bytes words.now) ≡ false → input.new ≡ input.old }
 {

@@ -103,8 +103,10 @@ fn terms_of(book: &Book, polys: &[Poly]) -> usize
     ensures { result ≡ min (terms_of (polynomials book.now polys.now)) (2 ^ 64 - 1) }
 {
     let mut terms = 0usize;
-    'polys: for p in polys {
+    let mut rest = polys;
+    'polys: while let [p, others @ ..] = rest {
         terms = terms.saturating_add(term_count(book, *p));
+        rest = others;
     }
     terms
 }
@@ -132,7 +134,7 @@ fn within_limits(book: &Book, equations: Vec<Poly>, inequations: Vec<Poly>) -> R
 
 /// The system of a text: the equations are expanded first, and the items of each group in order.
 #[tactic(auto, unfolding(crate::specs::System::system_answer))]
-pub(crate) fn system(alloc: Global, book: &mut Book, tree: &SystemTree) -> Result<System, Stop>
+pub(crate) fn system_of(alloc: Global, book: &mut Book, tree: &SystemTree) -> Result<System, Stop>
     requires ranking { book.old.ranking ≡ ranking_of (tree_of tree.now) }
     requires expressions { HasExpressions (tree_of tree.now) }
     ensures system { GivesSystem book.new result (system_answer (tree_of tree.now)) }

@@ -1,0 +1,18 @@
+use Rattle.std.proofs.Common.{◌≡◌, [], length}
+use Rattle.dz_poly.specs.Books.{IsKept}
+use Rattle.dz_poly.specs.Ranked.{symbols_under}
+use Rattle.dz_run.specs.Root.{kept_norms}
+use Rattle.dz_run.specs.System.{LiveAll, polynomials}
+use Rattle.dz_run.proofs.root.kept_norms.Given as goal
+
+abbrev pub invariant-polys : goal.invariant-polys
+invariant-polys l = record {
+  rest : LiveAll l.fn.book l.rest;
+  live : LiveAll l.book l.kept.items;
+  same : kept_norms (symbols_under l.fn.book.ranking) l.group (polynomials l.book l.kept.items) (polynomials l.fn.book l.rest)
+    ≡ kept_norms (symbols_under l.fn.book.ranking) l.group [] (polynomials l.fn.book l.polys);
+  kept : IsKept l.fn.book l.book;
+}
+
+abbrev pub decreases-polys : goal.decreases-polys
+decreases-polys l = length l.rest
