@@ -28,11 +28,13 @@ is_zero (t ∷ p) = false
 abbrev pub is_unit : Symbols Symbol → Polynomial Symbol → Bool
 is_unit g p = is_ground g p && not (is_zero p)
 
-abbrev is_equal : Ordering → Bool
+-- the order of two equal things
+abbrev pub is_equal : Ordering → Bool
 is_equal Equal = true
 is_equal o = false
 
-abbrev same_whole : ℤ → ℤ → Bool
+-- two whole numbers are equal
+abbrev pub same_whole : ℤ → ℤ → Bool
 same_whole (pos m) (pos n) = m == n
 same_whole (negsuc m) (negsuc n) = m == n
 same_whole a b = false

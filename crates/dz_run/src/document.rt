@@ -54,10 +54,8 @@ fn write_equations(
     ensures { OnOk result (into.new.items ≡ into.old.items
         ++ lines_of (codes "equation ") (map (polynomial_text names.now) (polynomials book.now polys.now))) }
 {
-    let mut rest = polys;
-    'equations: while let [p, others @ ..] = rest {
+    'equations: for p in polys {
         write_equation(into, names, book, *p)?;
-        rest = others;
     }
     Ok(())
 }

@@ -87,12 +87,10 @@ fn is_member(book: &Book, p: Poly, polys: &[Poly]) -> bool
     ensures { result ≡ is_member (symbols_under book.now.ranking) (polynomial book.now p)
         (polynomials book.now polys.now) }
 {
-    let mut rest = polys;
-    'members: while let [q, others @ ..] = rest {
+    'members: for q in polys {
         if same(book, p, *q) {
             return true;
         }
-        rest = others;
     }
     false
 }
@@ -125,7 +123,10 @@ fn keep_norm(
     let Ok(norm) = normalise(book, p) else {
         return Err(AllocError);
     };
-    if is_dropped(book, group, norm) || is_member(book, norm, kept) {
+    if is_dropped(book, group, norm) {
+        return Ok(());
+    }
+    if is_member(book, norm, kept) {
         return Ok(());
     }
     kept.push(norm)?;
@@ -145,10 +146,8 @@ fn kept_norms(
     ensures kept { OnOk result (IsKept book.old book.new) }
 {
     let mut kept = Vec::new(alloc);
-    let mut rest = polys;
-    'polys: while let [p, others @ ..] = rest {
+    'polys: for p in polys {
         keep_norm(book, group, *p, &mut kept)?;
-        rest = others;
     }
     Ok(kept)
 }
@@ -175,12 +174,10 @@ fn has_unit(book: &Book, polys: &[Poly]) -> bool
     requires { LiveAll book.now polys.now }
     ensures { result ≡ has_unit (symbols_under book.now.ranking) (polynomials book.now polys.now) }
 {
-    let mut rest = polys;
-    'polys: while let [p, others @ ..] = rest {
+    'polys: for p in polys {
         if is_unit(book, *p) {
             return true;
         }
-        rest = others;
     }
     false
 }
@@ -190,12 +187,10 @@ fn has_zero(book: &Book, polys: &[Poly]) -> bool
     requires { LiveAll book.now polys.now }
     ensures { result ≡ has_zero (polynomials book.now polys.now) }
 {
-    let mut rest = polys;
-    'polys: while let [p, others @ ..] = rest {
+    'polys: for p in polys {
         if is_zero(book, *p) {
             return true;
         }
-        rest = others;
     }
     false
 }

@@ -103,10 +103,8 @@ fn terms_of(book: &Book, polys: &[Poly]) -> usize
     ensures { result ≡ min (terms_of (polynomials book.now polys.now)) (2 ^ 64 - 1) }
 {
     let mut terms = 0usize;
-    let mut rest = polys;
-    'polys: while let [p, others @ ..] = rest {
+    'polys: for p in polys {
         terms = terms.saturating_add(term_count(book, *p));
-        rest = others;
     }
     terms
 }

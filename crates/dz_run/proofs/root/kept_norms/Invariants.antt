@@ -1,4 +1,4 @@
-use Rattle.std.proofs.Common.{◌≡◌, [], length}
+use Rattle.std.proofs.Common.{◌≡◌, [], drop}
 use Rattle.dz_poly.specs.Books.{IsKept}
 use Rattle.dz_poly.specs.Ranked.{symbols_under}
 use Rattle.dz_run.specs.Root.{kept_norms}
@@ -7,12 +7,8 @@ use Rattle.dz_run.proofs.root.kept_norms.Given as goal
 
 abbrev pub invariant-polys : goal.invariant-polys
 invariant-polys l = record {
-  rest : LiveAll l.fn.book l.rest;
   live : LiveAll l.book l.kept.items;
-  same : kept_norms (symbols_under l.fn.book.ranking) l.group (polynomials l.book l.kept.items) (polynomials l.fn.book l.rest)
+  same : kept_norms (symbols_under l.fn.book.ranking) l.group (polynomials l.book l.kept.items) (polynomials l.fn.book (drop l.p-index l.polys))
     ≡ kept_norms (symbols_under l.fn.book.ranking) l.group [] (polynomials l.fn.book l.polys);
   kept : IsKept l.fn.book l.book;
 }
-
-abbrev pub decreases-polys : goal.decreases-polys
-decreases-polys l = length l.rest
