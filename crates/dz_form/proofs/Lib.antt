@@ -11,3 +11,4 @@ pub mod CutTexts
 pub mod OperatorsRead
 pub mod SymbolsRead
 pub mod Marks
+pub mod ItemValues
