@@ -12,3 +12,6 @@ pub mod OperatorsRead
 pub mod SymbolsRead
 pub mod Marks
 pub mod ItemValues
+pub mod FitPowers
+pub mod PartsKept
+pub mod TextValues
