@@ -29,7 +29,7 @@ AreKeepable r [] = ⊤
 AreKeepable r (p ∷ values) = IsKeepable r p × AreKeepable r values
 
 -- what two answers have is one
-same_value : {A E : Type 0} (a b : A) → ◌≡◌ {A = Result A E} (Ok a) (Ok b) → a ≡ b
+pub same_value : {A E : Type 0} (a b : A) → ◌≡◌ {A = Result A E} (Ok a) (Ok b) → a ≡ b
 same_value a b e = cc
 
 -- the polynomial zero may stand in a book

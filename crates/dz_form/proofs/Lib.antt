@@ -15,3 +15,4 @@ pub mod ItemValues
 pub mod FitPowers
 pub mod PartsKept
 pub mod TextValues
+pub mod PolynomialTexts
