@@ -1,5 +1,5 @@
 -- The powers and coefficients of a polynomial that may stand in a book may be written.
-use Rattle.std.proofs.Common.{◌≡◌, ◌<◌, ◌≤◌, ◌∙◌, ◌||◌, sym, ap, ap₂, refl, ℕ, Bool, true, false, cond, List, [], ◌∷◌, ◌++◌, map, nat_lt, ℤ, unsigned_abs, Option, Some, None, arith, subst}
+use Rattle.std.proofs.Common.{◌≡◌, ◌<◌, ◌≤◌, ◌||◌, sym, refl, ℕ, Bool, true, false, cond, List, [], ◌∷◌, ◌++◌, map, nat_lt, ℤ, unsigned_abs, Option, Some, None, arith, subst}
 use Rattle.std.specs.Prelude.{All, ⊤, length}
 use Rattle.std.specs.List.{list_any}
 use Rattle.std.proofs.lemmas.Bool.Decides.{nat_tests}

@@ -1,5 +1,5 @@
 -- What an item's value is may stand in a book.
-use Rattle.std.proofs.Common.{◌≡◌, ◌≤◌, sym, subst, refl, ℕ, zero, suc, List, [], ◌∷◌, ◌++◌, ℤ, pos, negsuc, unsigned_abs, Result, Ok, Err, arith}
+use Rattle.std.proofs.Common.{◌≡◌, ◌≤◌, subst, refl, ℕ, zero, suc, List, [], ◌∷◌, ◌++◌, ℤ, pos, negsuc, unsigned_abs, Result, Ok, Err, arith}
 use Rattle.std.specs.Prelude.{All, ⊤}
 use Rattle.std.proofs.lemmas.List.Elements.{All-head, All-tail}
 use Rattle.dz_algebra.specs.Amount.{greatest}

@@ -1,12 +1,11 @@
 -- Parts of a polynomial that may stand in a book may stand in it.
-use Rattle.std.proofs.Common.{◌≡◌, ◌≢◌, ◌≤◌, ◌+◌, ◌∙◌, sym, ap, subst, refl, ℕ, max, List, [], ◌∷◌, ◌++◌, map, length, ℤ, pos, unsigned_abs, Option, None, arith, length-append}
+use Rattle.std.proofs.Common.{◌≡◌, ◌≢◌, ◌≤◌, ◌+◌, ◌∙◌, sym, ap, refl, ℕ, List, [], ◌∷◌, ◌++◌, map, length, ℤ, pos, unsigned_abs, None, arith, length-append}
 use Rattle.std.specs.Prelude.{All}
 use Rattle.std.specs.declared.cmp.Ordering.{Ordering}
-use Rattle.std.specs.declared.cmp.Ordering.TheVariants.{Greater}
 use Rattle.std.specs.Ordering.{match_ordering}
 use Rattle.std.proofs.lemmas.List.Elements.{All-cons, All-head, All-nil, All-tail}
 use Rattle.dz_algebra.specs.Amount.{greatest}
-use Rattle.dz_algebra.specs.Order.{IsAbove, IsOrder}
+use Rattle.dz_algebra.specs.Order.{IsAbove}
 use Rattle.dz_algebra.specs.Monomial.{Monomial, IsMonomial, MonomialIn, exponent, monomial_cmp, monomial_product, with_power}
 use Rattle.dz_algebra.specs.Polynomial.{Polynomial, IsPolynomial, PolynomialIn}
 use Rattle.dz_algebra.specs.Size.{limit_of}

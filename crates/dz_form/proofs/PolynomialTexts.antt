@@ -6,7 +6,7 @@ use Rattle.dz_algebra.specs.Size.{Refusal, wide, large}
 use Rattle.dz_algebra.specs.Symbols.{Symbols}
 use Rattle.dz_rank.specs.declared.symbols.Symbol.{Symbol}
 use Rattle.dz_rank.specs.Rankings.{RankingValue}
-use Rattle.dz_poly.specs.Books.{BookValue, Gives, IsKeepable, IsStop, refusal_of}
+use Rattle.dz_poly.specs.Books.{BookValue, Gives, IsKeepable, IsStop}
 use Rattle.dz_poly.specs.declared.PolyStop.{PolyStop}
 use Rattle.dz_poly.specs.declared.PolyStop.TheVariants as stops
 use Rattle.dz_poly.specs.Ranked.{symbols_under}
@@ -16,7 +16,7 @@ use Rattle.dz_syntax.specs.declared.fault.SyntaxKind.{SyntaxKind}
 use Rattle.dz_syntax.specs.declared.fault.SyntaxKind.TheVariants as kinds
 use Rattle.dz_syntax.specs.Items.{Answers, item_of}
 use Rattle.dz_syntax.specs.Names.{Declared, IsDeclared, signature_of}
-use Rattle.dz_syntax.proofs.Readings.{item_again, one_reading}
+use Rattle.dz_syntax.proofs.Readings.{item_again}
 use Rattle.dz_form.specs.declared.polynomials.ReadPolyFault.{ReadPolyFault}
 use Rattle.dz_form.specs.declared.polynomials.ReadPolyFault.TheVariants.{Memory, Syntax}
 use Rattle.dz_form.specs.PolynomialReading.{GivesRead, fault_of, polynomial_at, polynomial_of, text_fault, text_fault_by, value_fault, value_of}

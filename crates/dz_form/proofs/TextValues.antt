@@ -9,7 +9,7 @@ use Rattle.std.proofs.lemmas.Int.{ints}
 use Rattle.std.proofs.lemmas.List.Elements.{All-head}
 use Rattle.dz_algebra.specs.Amount.{greatest}
 use Rattle.dz_algebra.specs.Monomial.{Monomial, monomial_product}
-use Rattle.dz_algebra.specs.Polynomial.{Polynomial, negated, symbol_polynomial}
+use Rattle.dz_algebra.specs.Polynomial.{Polynomial, symbol_polynomial}
 use Rattle.dz_algebra.specs.Size.{Refusal, difference_answer, operation, product_answer, sum_answer}
 use Rattle.dz_algebra.specs.Symbols.{Symbols}
 use Rattle.dz_rank.specs.declared.symbols.Symbol.{Symbol}
@@ -24,7 +24,7 @@ use Rattle.dz_syntax.specs.declared.expression.Op.{Op}
 use Rattle.dz_syntax.specs.declared.expression.Op.TheVariants as ops
 use Rattle.dz_form.specs.Steps.{factor_steps, more_terms_steps, polynomial_steps, power_steps, term_steps}
 use Rattle.dz_form.specs.Values.{◌>>=◌, Polynomials, item_answer, latest, onto, power_answer, steps_answer, step_answer, times}
-use Rattle.dz_form.proofs.FitPowers.{AreFitPowers, IsFitPower, fit_back, keepable_fits}
+use Rattle.dz_form.proofs.FitPowers.{IsFitPower, fit_back, keepable_fits}
 use Rattle.dz_form.proofs.Keeping.{operation_keeps}
 use Rattle.dz_form.proofs.PartsKept.{back_keepable, coefficient_keepable, front_keepable, powers_keepable, product_appends}
 
