@@ -11,3 +11,8 @@ pub mod CutTexts
 pub mod OperatorsRead
 pub mod SymbolsRead
 pub mod Marks
+pub mod ItemValues
+pub mod FitPowers
+pub mod PartsKept
+pub mod TextValues
+pub mod PolynomialTexts

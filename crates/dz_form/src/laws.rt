@@ -2,6 +2,8 @@
 
 ghost use Rattle.std.specs.Prelude.{◌≡◌, ◌≤◌, sum};
 ghost use Rattle.dz_algebra.specs.Polynomial.{Polynomial};
+ghost use Rattle.dz_poly.specs.Books.{IsKeepable};
+ghost use Rattle.dz_rank.specs.Rankings.{RankingValue};
 ghost use Rattle.dz_rank.specs.declared.symbols.Operator.{Operator};
 ghost use Rattle.dz_rank.specs.declared.symbols.Symbol.{Symbol};
 ghost use Rattle.dz_rank.specs.Symbols.{BelongsTo, IsOperatorOf, total_order};
@@ -14,6 +16,13 @@ ghost use Rattle.dz_form.specs.Steps.{polynomial_steps};
 pub fn text_is_item()
     ensures { (names : Declared) (p : Polynomial Symbol) → IsDeclared names → IsWritable names p
         → IsItem names (polynomial_text names p) (polynomial_steps p) }
+{}
+
+/// Two polynomials that have one text are one polynomial.
+pub fn one_polynomial()
+    ensures { (names : Declared) (r : RankingValue) (p q : Polynomial Symbol) → IsDeclared names
+        → signature_of names ≡ r.signature → IsKeepable r p → IsKeepable r q
+        → polynomial_text names p ≡ polynomial_text names q → p ≡ q }
 {}
 
 /// Two symbols that have one text are one symbol.

@@ -3,10 +3,12 @@
 
 mod expansion;
 mod laws;
+mod polynomials;
 mod read;
 mod write;
 
 pub use expansion::expand;
-pub use laws::{one_operator, one_symbol, text_is_item};
+pub use laws::{one_operator, one_polynomial, one_symbol, text_is_item};
+pub use polynomials::{ReadPolyFault, read_poly};
 pub use read::{read_operator, read_symbol};
 pub use write::{write_operator, write_poly, write_symbol};
