@@ -1,6 +1,6 @@
 -- The tree for a root, by tests of its polynomials.
 use Rattle.std.proofs.Common.{◌≡◌, ◌==◌, ◌||◌, ◌&&◌, ◌<◌, ◌+◌, ◌∙◌, ℕ, Bool, true, false, List, [], ◌∷◌, drop, length, ℤ, pos, negsuc, refl, sym, ap, arith, eqb-true}
-use Rattle.std.specs.Prelude.{slice_index_or}
+use Rattle.std.specs.Prelude.{IsTrue, slice_index_or}
 use Rattle.std.specs.declared.cmp.Ordering.{Ordering}
 use Rattle.std.specs.declared.cmp.Ordering.TheVariants.{Less, Equal, Greater}
 use Rattle.std.proofs.lemmas.Bool.Decides.{nat_tests}
@@ -67,6 +67,10 @@ module _ (r : RankingValue) where
 
   pub other_not_same : (p q : Polynomial Symbol) → (p ≡ q → ⊥) → same (symbols_under r) p q ≡ false
   other_not_same p q n = elim (same (symbols_under r) p q) as (λ b. same (symbols_under r) p q ≡ b → b ≡ false) [ true ↦ λ e. absurd (n (same_is p q e)) | false ↦ λ e. refl ] refl
+
+-- what is false is not true
+pub untrue : IsTrue false → ⊥
+untrue e = absurd cc
 
 -- ---- loops over lists of polynomials: what a test finds from a place on
 module _ (book : BookValue) where

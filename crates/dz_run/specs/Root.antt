@@ -11,12 +11,12 @@ use Rattle.dz_algebra.specs.Symbols.{Symbols}
 use Rattle.dz_domain.specs.Point.{Coordinates, value_at}
 use Rattle.dz_form.specs.Values.{Polynomials}
 use Rattle.dz_rank.specs.declared.symbols.Symbol.{Symbol}
-use Rattle.dz_poly.specs.Books.{BookValue, Means}
+use Rattle.dz_poly.specs.Books.{BookValue}
 use Rattle.dz_run.specs.declared.system.Group.{Group}
 use Rattle.dz_run.specs.declared.system.Group.TheVariants.{Equation, Inequation}
 use Rattle.dz_run.specs.declared.root.Tree.{Tree}
 use Rattle.dz_run.specs.declared.root.Tree.TheVariants as trees
-use Rattle.dz_run.specs.System.{MeanAll, System}
+use Rattle.dz_run.specs.System.{LiveAll, System, polynomials}
 
 -- ---- tests of polynomials
 -- the polynomial is zero
@@ -119,12 +119,17 @@ resting g es hs = None
 unfoldable pub tree_of_root : Symbols Symbol → System → Option Root
 tree_of_root g s = if is_closed g s then Some closed else resting g s.equations s.inequations
 
--- a tree of the code is this one, or there is none
-abbrev pub IsTree : BookValue → Option Tree → Option Root → Type 0
-IsTree book (Some trees.Closed) (Some closed) = ⊤
-IsTree book (Some (trees.Chain ps)) (Some (chain qs)) = MeanAll book ps.items qs
-IsTree book None None = ⊤
-IsTree book tree root = ⊥
+-- the equations of a tree of the code are polynomials of the book
+abbrev pub TreeLives : BookValue → Option Tree → Type 0
+TreeLives book None = ⊤
+TreeLives book (Some trees.Closed) = ⊤
+TreeLives book (Some (trees.Chain ps)) = LiveAll book ps.items
+
+-- what a tree of the code is
+abbrev pub tree_in : BookValue → Option Tree → Option Root
+tree_in book None = None
+tree_in book (Some trees.Closed) = Some closed
+tree_in book (Some (trees.Chain ps)) = Some (chain (polynomials book ps.items))
 
 -- ---- at a point
 -- every equation has value zero, and no inequation has

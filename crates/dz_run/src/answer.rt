@@ -3,7 +3,7 @@ ghost use Rattle.std.specs.Prelude.{◌≡◌, IfOk, OnOk, Ok, map, string_bytes
 ghost use Rattle.dz_syntax.specs.Names.{signature_of};
 ghost use Rattle.dz_syntax.specs.Systems.{HasExpressions, tree_of};
 ghost use Rattle.dz_run.specs.Answer.{answer_of, answer_to, built, built_answer, is_decompose, refused_ending, silent, system_told};
-ghost use Rattle.dz_run.specs.Root.{IsTree};
+ghost use Rattle.dz_run.specs.Root.{TreeLives, tree_in};
 ghost use Rattle.dz_run.specs.System.{LivesSystem, ranking_of, system_answer, system_in};
 
 use crate::document::{chain_document, closed_document};
@@ -65,7 +65,8 @@ fn refused_ending(refused: Refused) -> Ending
 fn built(alloc: Global, book: &mut Book, tree: &SystemTree, system: &System) -> Result<Option<Tree>, AllocError>
     requires ranking { book.old.ranking ≡ ranking_of (tree_of tree.now) }
     requires lives { LivesSystem book.old system.now }
-    ensures value { IfOk result (λ o. IsTree book.new o (built (tree_of tree.now) (system_in book.old system.now))) }
+    ensures lives { IfOk result (λ o. TreeLives book.new o) }
+    ensures value { IfOk result (λ o. tree_in book.new o ≡ built (tree_of tree.now) (system_in book.old system.now)) }
     ensures ranking { OnOk result (book.new.ranking ≡ book.old.ranking) }
 {
     if tree.signature.independents > 1 {
@@ -79,7 +80,8 @@ fn built(alloc: Global, book: &mut Book, tree: &SystemTree, system: &System) -> 
 /// The answer for the tree of a root.
 fn built_answer(alloc: Global, names: &Names, book: &Book, tree: Option<Tree>) -> Result<Told, AllocError>
     requires signature { signature_of names.now ≡ book.now.ranking.signature }
-    ensures { (o : _) → IsTree book.now tree o → IfOk result (λ told. answer_of told ≡ built_answer names.now o) }
+    requires lives { TreeLives book.now tree }
+    ensures { IfOk result (λ told. answer_of told ≡ built_answer names.now (tree_in book.now tree)) }
 {
     let output = match tree {
         None => return Ok(Told::silent(alloc, Ending::NotBuilt)),

@@ -4,8 +4,8 @@ ghost use Rattle.dz_algebra.specs.Parts.{is_ground, leader};
 ghost use Rattle.dz_poly.specs.Books.{IsKept, Lives, polynomial};
 ghost use Rattle.dz_poly.specs.Ranked.{symbols_under};
 ghost use Rattle.dz_rank.specs.Symbols.{is_derivative};
-ghost use Rattle.dz_run.specs.Root.{IsTree, is_dropped, is_linear, is_linear_in, is_member, is_one, is_unit, is_zero};
-ghost use Rattle.dz_run.specs.Root.{has_unit, has_zero, kept_norms, root_of, tree_of_root};
+ghost use Rattle.dz_run.specs.Root.{TreeLives, is_dropped, is_linear, is_linear_in, is_member, is_one, is_unit, is_zero};
+ghost use Rattle.dz_run.specs.Root.{has_unit, has_zero, kept_norms, root_of, tree_in, tree_of_root};
 ghost use Rattle.dz_run.specs.System.{LiveAll, LivesSystem, MeanAll, polynomials, system_in};
 
 use crate::system::{Group, System};
@@ -236,8 +236,9 @@ fn is_linear(book: &mut Book, p: Poly) -> Result<bool, AllocError>
 #[tactic(auto, unfolding(crate::specs::Root::tree_of_root))]
 pub(crate) fn tree_of_root(book: &mut Book, root: System) -> Result<Option<Tree>, AllocError>
     requires { LivesSystem book.old root }
-    ensures value { IfOk result (λ o. IsTree book.new o
-        (tree_of_root (symbols_under book.old.ranking) (system_in book.old root))) }
+    ensures lives { IfOk result (λ o. TreeLives book.new o) }
+    ensures value { IfOk result (λ o. tree_in book.new o
+        ≡ tree_of_root (symbols_under book.old.ranking) (system_in book.old root)) }
     ensures kept { OnOk result (IsKept book.old book.new) }
 {
     if has_unit(book, &root.equations) || has_zero(book, &root.inequations) {

@@ -1,7 +1,10 @@
-use Rattle.std.proofs.Common.{◌≡◌, ◌+◌, ◌-◌, ◌^◌, drop}
+use Rattle.std.proofs.Common.{◌≡◌, ◌<◌, ◌+◌, ◌-◌, ◌^◌, drop}
 use Rattle.std.specs.Prelude.{min}
 use Rattle.dz_run.specs.System.{polynomials, terms_of}
 use Rattle.dz_run.proofs.system.terms_of.Given as goal
 
 abbrev pub invariant-polys : goal.invariant-polys
-invariant-polys l = min (l.terms + terms_of (polynomials l.book (drop l.p-index l.polys))) (2 ^ 64 - 1) ≡ min (terms_of (polynomials l.book l.polys)) (2 ^ 64 - 1)
+invariant-polys l = record {
+  fits : l.terms < 2 ^ 64;
+  same : min (l.terms + terms_of (polynomials l.book (drop l.p-index l.polys))) (2 ^ 64 - 1) ≡ min (terms_of (polynomials l.book l.polys)) (2 ^ 64 - 1);
+}
