@@ -11,13 +11,20 @@ use Rattle.dz_algebra.specs.Order.{IsOrder, IsAbove}
 use Rattle.dz_algebra.specs.Monomial.{Monomial, monomial_cmp}
 use Rattle.dz_algebra.specs.Polynomial.{Polynomial, Contributions, IsPolynomial, term_times, pairs}
 use Rattle.dz_algebra.specs.Amount.{Amount, amounts, add_amounts, gathered}
+use Rattle.dz_algebra.specs.Size.{operation}
 use Rattle.dz_algebra.proofs.Gathers.{merge_puts, falling_onto}
 use Rattle.dz_algebra.proofs.Operations.{monomial_order, falling_gathered, amounts-append}
 use Rattle.dz_algebra.proofs.SameAmounts.{landed-append, landed_onto, landed_gather, same_falling}
+use Rattle.dz_algebra.proofs.OperationOrder.{factors_swap}
+use Rattle.dz_rank.specs.declared.symbols.Symbol.{Symbol}
+use Rattle.dz_rank.specs.Rankings.{RankingValue, ranking_cmp}
+use Rattle.dz_poly.specs.Entries.{IsEntry}
+use Rattle.dz_poly.specs.Ranked.{symbols_under}
 use Rattle.dz_poly.specs.Cells.{add_capped, caps}
 use Rattle.dz_poly.specs.Degrees.{degrees, has_high_exponent}
 use Rattle.dz_poly.specs.declared.PolyStop.{PolyStop}
 use Rattle.dz_poly.specs.declared.PolyStop.TheVariants.{Memory, Large}
+use Rattle.dz_poly.proofs.SymbolLaws.{ranking_order}
 use Rattle.dz_poly.proofs.Amounts.{merged, falling_caps, caps_onto, length-caps}
 use Rattle.dz_poly.proofs.Multiplying.{row_falls, high-append, longer_gathered}
 
@@ -177,3 +184,7 @@ module _ {S : Type 0} {cmp : S → S → Ordering} (order : IsOrder cmp) (p a b 
 -- too many cells are too many monomials
 pub too_many : {S : Type 0} (cmp : S → S → Ordering) (ts : Contributions S) (all : List (Monomial S × Option Amount)) → all ≡ caps (gathered cmp ts) → 4096 < length all → 4096 < length (gathered cmp ts)
 too_many cmp ts all e l = let g : length all ≡ length (gathered cmp ts) = ap length e ∙ length-caps (gathered cmp ts) in omega arith
+
+-- the factors of a product in the other order
+pub factors_swapped : (r : RankingValue) (p : Polynomial Symbol) (a : Monomial Symbol) (q : Polynomial Symbol) (b : Monomial Symbol) → IsEntry r p a → IsEntry r q b → operation (symbols_under r) (pairs (ranking_cmp r) p q) ≡ operation (symbols_under r) (pairs (ranking_cmp r) q p)
+factors_swapped r p a q b h g = factors_swap (symbols_under r) (ranking_order r) p q h.keepable.canonical g.keepable.canonical

@@ -68,7 +68,7 @@ pub(crate) fn absorb(
 {
     let mut cells = cells;
     let mut row = row;
-    let mut all = VecDeque::with_capacity(alloc, cells.len().max(row.len()))?;
+    let mut all = VecDeque::with_capacity(alloc, cells.len().saturating_add(row.len()))?;
     while let Some(cell) = take_greatest(ranking, &mut cells, &mut row) {
         all.push_back(cell)?;
     }

@@ -121,8 +121,8 @@ fn product_support(
 }
 
 #[tactic(auto, using(crate::proofs::Multiplying::left_zero, crate::proofs::Multiplying::right_zero, crate::proofs::Multiplying::zero_entry, crate::proofs::Multiplying::not_zero,))]
-/// The product of two polynomials.
-pub(crate) fn product(
+/// The product of two polynomials, of which the first is taken apart.
+fn product_by_halves(
     alloc: Global,
     ranking: &Ranking,
     p: &Entry,
@@ -146,4 +146,30 @@ pub(crate) fn product(
     }
     let support = product_support(alloc, ranking, p, q)?;
     conclude(alloc, ranking, support)
+}
+
+#[tactic(auto, using(crate::proofs::Halves::factors_swapped))]
+/// The product of two polynomials; the one with fewer terms is taken apart.
+pub(crate) fn product(
+    alloc: Global,
+    ranking: &Ranking,
+    p: &Entry,
+    q: &Entry,
+) -> Result<Entry, PolyStop>
+    requires first { IsEntry ranking.now p.now.terms.items p.now.degrees.items }
+    requires second { IsEntry ranking.now q.now.terms.items q.now.degrees.items }
+    ensures ok { IfOk result (λ product. operation (symbols_under ranking.now)
+        (pairs (ranking_cmp ranking.now) p.now.terms.items q.now.terms.items)
+        ≡ Ok product.terms.items) }
+    ensures entry { IfOk result (λ product.
+        IsEntry ranking.now product.terms.items product.degrees.items) }
+    ensures refused { IfErr result (λ e. IsStop e (operation (symbols_under ranking.now)
+        (pairs (ranking_cmp ranking.now) p.now.terms.items q.now.terms.items))) }
+{
+    if q.terms.len() < p.terms.len() {
+        let product = product_by_halves(alloc, ranking, q, p)?;
+        return Ok(product);
+    }
+    let product = product_by_halves(alloc, ranking, p, q)?;
+    Ok(product)
 }
