@@ -1,5 +1,5 @@
 -- What a run that is done means at a point.
-use Rattle.std.proofs.Common.{◌≡◌, Bool, true, false, if◌then◌else◌, List, [], ◌∷◌, ◌+◌, ℕ, All, Option, Some, None, Result, Ok, Err, ap, length, refl, subst, sym, ◌∙◌}
+use Rattle.std.proofs.Common.{◌≡◌, true, false, if◌then◌else◌, List, [], ◌∷◌, ◌+◌, ℕ, All, Option, Some, None, Result, Ok, Err, ap, length, refl, subst, sym, ◌∙◌}
 use Rattle.std.specs.Prelude.{nat_le, nat_lt}
 use Rattle.std.specs.Io.KnownBytes.{Appends}
 use Rattle.std.proofs.lemmas.List.Elements.{All-head, All-tail}
@@ -7,7 +7,7 @@ use Rattle.dz_algebra.specs.Domain.{DomainLaws, Operations}
 use Rattle.dz_algebra.specs.Polynomial.{Polynomial}
 use Rattle.dz_algebra.specs.Size.{Refusal, wide, large}
 use Rattle.dz_algebra.specs.declared.Limit.TheVariants as limits
-use Rattle.dz_domain.specs.Point.{Coordinates, FitsSignature, IsPoint}
+use Rattle.dz_domain.specs.Point.{Coordinates, IsPoint}
 use Rattle.dz_form.specs.Values.{◌>>=◌, Polynomials, item_answer}
 use Rattle.dz_poly.specs.Books.{IsKeepable}
 use Rattle.dz_poly.specs.Ranked.{symbols_under}

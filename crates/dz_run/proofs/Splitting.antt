@@ -1,11 +1,10 @@
 -- The tree of one line that is built for a system has the solutions of the system.
-use Rattle.std.proofs.Common.{◌≡◌, ◌≢◌, ◌⊎◌, ◌↔◌, ◌==◌, ◌≤◌, ◌&&◌, ◌||◌, not, ℕ, zero, suc, Bool, true, false, if◌then◌else◌, List, [], ◌∷◌, ◌++◌, All, ℤ, pos, negsuc, Option, Some, None, refl, subst, arith, sym, ap, ap₂, ◌∙◌, inl, inr, eqb-true}
+use Rattle.std.proofs.Common.{◌≡◌, ◌≢◌, ◌⊎◌, ◌↔◌, ◌≤◌, ◌&&◌, ◌||◌, not, ℕ, zero, suc, Bool, true, false, if◌then◌else◌, [], ◌∷◌, ◌++◌, All, ℤ, pos, negsuc, Some, None, refl, subst, arith, sym, ap, ap₂, ◌∙◌, inl, inr, eqb-true}
 use Rattle.std.specs.Prelude.{⊤}
 use Rattle.std.proofs.lemmas.List.Elements.{All-cons, All-head, All-nil, All-tail}
 use Rattle.std.specs.declared.cmp.Ordering.{Ordering}
 use Rattle.std.specs.declared.cmp.Ordering.TheVariants.{Less, Equal, Greater}
 use Rattle.dz_algebra.specs.Domain.{Operations, DomainLaws, copies}
-use Rattle.dz_algebra.specs.Order.{IsOrder}
 use Rattle.dz_algebra.specs.Ring.{Ring, Value, same_value, values_arithmetic, ring_of_values, product_zero, negative_negative, negative_zero}
 use Rattle.dz_algebra.specs.Monomial.{monomial_cmp}
 use Rattle.dz_algebra.specs.Polynomial.{Contributions, Polynomial, IsPolynomial, PolynomialIn}
@@ -340,8 +339,7 @@ module _ (r : RankingValue) {E : Type 0} {o : Operations E} (laws : DomainLaws o
         | false ↦ λ w k. resting_splits s.equations s.inequations root over k
       ] refl e
 
-  -- At a point that fits, a system is solved exactly where the tree that is built for its root is, and the chain of the
-  -- tree is nonsingular.
+  -- the tree that is built for the root of a system has the solutions of the system, and its chain is nonsingular
   pub root_has_solutions : (s : System) (root : Root) → AllOf (IsOver r) s.equations → AllOf (IsOver r) s.inequations → tree_of_root (symbols_under r) (root_of (symbols_under r) s) ≡ Some root → Splits s root
   unfolding root_of
   root_has_solutions s root es hs e =
