@@ -20,6 +20,8 @@ use Rattle.dz_syntax.specs.declared.fault.SyntaxFault.{SyntaxFault}
 use Rattle.dz_syntax.specs.Names.{Declared}
 use Rattle.dz_syntax.specs.Postfix.{IsExpression}
 use Rattle.dz_syntax.specs.Systems.{HasExpressions, Tree, system_of}
+use Rattle.dz_form.proofs.ItemValues.{item_keepable}
+use Rattle.dz_syntax.proofs.SystemExpressions.{system_expressions}
 use Rattle.dz_syntax.proofs.SystemReadings.{system_found}
 use Rattle.dz_run.specs.declared.ending.Ending.{Ending}
 use Rattle.dz_run.specs.declared.ending.Ending.TheVariants.{Done, Syntax, Wide, Large, ReadFault, WriteFault, WriteStuck, NoMemory, TooLong, NotBuilt}
@@ -67,14 +69,14 @@ limits_ok es hs s e =
           ] k
     ] e
 
-module _ (r : RankingValue) (items_keepable : (steps : List Op) (p : Polynomial Symbol) → IsExpression r.signature steps → item_answer (symbols_under r) steps ≡ Ok p → IsKeepable r p) where
+module _ (r : RankingValue) where
   -- the values of items are over the ranking
   items_over : (group : Group) (n : ℕ) (items : List (List Op)) (ps : Polynomials) → All (λ item. IsExpression r.signature item) items → items_answer (symbols_under r) group n items ≡ Ok ps → AllOf (IsOver r) ps
   items_over group n [] ps h e = let equal : [] ≡ ps = cc in subst (λ x. AllOf (IsOver r) x) equal tt
   items_over group n (steps ∷ items) ps h e =
       let first = bind_ok (numbered group (n + 1) (item_answer (symbols_under r) steps)) (λ p. before_values p (items_answer (symbols_under r) group (n + 1) items)) ps e in
       let rest = before_ok first.0 (items_answer (symbols_under r) group (n + 1) items) ps first.2 in
-      let kept = items_keepable steps first.0 (All-head (λ item. IsExpression r.signature item) steps items h) (numbered_ok group (n + 1) (item_answer (symbols_under r) steps) first.0 first.1) in
+      let kept = item_keepable r steps first.0 (All-head (λ item. IsExpression r.signature item) steps items h) (numbered_ok group (n + 1) (item_answer (symbols_under r) steps) first.0 first.1) in
       let over : IsOver r first.0 = record { canonical = kept.canonical; belongs = kept.belongs } in
       subst (λ x. AllOf (IsOver r) x) rest.2 (over, items_over group (n + 1) items rest.0 (All-tail (λ item. IsExpression r.signature item) steps items h) rest.1)
 
@@ -84,17 +86,16 @@ pub record AreOver (r : RankingValue) (s : System) : Type 0 where
   pub inequations : AllOf (IsOver r) s.inequations
 
 -- the members of a system of a text are over its ranking
-system_over : (items_keepable : (r : RankingValue) (steps : List Op) (p : Polynomial Symbol) → IsExpression r.signature steps → item_answer (symbols_under r) steps ≡ Ok p → IsKeepable r p)
-    → (tree : Tree) (s : System) → HasExpressions tree → system_answer tree ≡ Ok s → AreOver (ranking_of tree) s
+system_over : (tree : Tree) (s : System) → HasExpressions tree → system_answer tree ≡ Ok s → AreOver (ranking_of tree) s
 unfolding system_answer
-system_over items_keepable tree s has e =
+system_over tree s has e =
     let g = symbols_under (ranking_of tree) in
     let first = bind_ok (items_answer g Equation 0 tree.equations) (λ es. items_answer g Inequation 0 tree.inequations >>= λ hs. within_limits es hs) s e in
     let second = bind_ok (items_answer g Inequation 0 tree.inequations) (λ hs. within_limits first.0 hs) s first.2 in
     let members = limits_ok first.0 second.0 s second.2 in
     record {
-      equations = subst (λ x. AllOf (IsOver (ranking_of tree)) x) members.0 (items_over (ranking_of tree) (items_keepable (ranking_of tree)) Equation 0 tree.equations first.0 has.equations first.1);
-      inequations = subst (λ x. AllOf (IsOver (ranking_of tree)) x) members.1 (items_over (ranking_of tree) (items_keepable (ranking_of tree)) Inequation 0 tree.inequations second.0 has.inequations second.1);
+      equations = subst (λ x. AllOf (IsOver (ranking_of tree)) x) members.0 (items_over (ranking_of tree) Equation 0 tree.equations first.0 has.equations first.1);
+      inequations = subst (λ x. AllOf (IsOver (ranking_of tree)) x) members.1 (items_over (ranking_of tree) Inequation 0 tree.inequations second.0 has.inequations second.1);
     }
 
 -- ---- the answer
@@ -148,39 +149,37 @@ unfolding answer_to
 answer_shown bytes made = made.shown
 
 -- ---- the run
-module _ (items_keepable : (r : RankingValue) (steps : List Op) (p : Polynomial Symbol) → IsExpression r.signature steps → item_answer (symbols_under r) steps ≡ Ok p → IsKeepable r p)
-    (have_expressions : (form : Form) (bytes : List ℕ) (tree : Tree) → system_of form bytes ≡ Ok tree → HasExpressions tree) where
-  -- what is printed for a text has the solutions of its system
-  given_is_solved : {E : Type 0} {o : Operations E} (laws : DomainLaws o) {c : Coordinates E} (point : IsPoint o c) → (words : List (List ℕ)) (before after : Input) (out out' : Output)
-      → IsGiven words before after out out' Done → IsSolvedBy o c before after out.written out'.written
-  given_is_solved laws point words before after out out' (answer, (bytes, decompose, read, told), done, grown) =
-      let made = answer_made bytes (ap (λ a. a.ending) told ∙ done) in
-      let over = system_over items_keepable made.tree made.system (have_expressions Plain bytes made.tree made.spelled) made.expanded in
-      let tree = built_tree made.tree made.system made.root made.stands in
-      record {
-        bytes = bytes;
-        tree = made.tree;
-        system = made.system;
-        root = made.root;
-        read = read;
-        spelled = system_found Plain bytes made.tree made.spelled;
-        expanded = made.expanded;
-        built = made.stands;
-        printed = subst (Appends out.written out'.written) (sym (ap (λ a. a.output) told) ∙ answer_shown bytes made) grown;
-        solutions = λ fits. (root_has_solutions (ranking_of made.tree) laws point fits made.system made.root over.equations over.inequations tree).0;
-        nonsingular = λ fits. (root_has_solutions (ranking_of made.tree) laws point fits made.system made.root over.equations over.inequations tree).1;
-      }
+-- what is printed for a text has the solutions of its system
+given_is_solved : {E : Type 0} {o : Operations E} (laws : DomainLaws o) {c : Coordinates E} (point : IsPoint o c) → (words : List (List ℕ)) (before after : Input) (out out' : Output)
+    → IsGiven words before after out out' Done → IsSolvedBy o c before after out.written out'.written
+given_is_solved laws point words before after out out' (answer, (bytes, decompose, read, told), done, grown) =
+    let made = answer_made bytes (ap (λ a. a.ending) told ∙ done) in
+    let over = system_over made.tree made.system (system_expressions Plain bytes made.tree made.spelled) made.expanded in
+    let tree = built_tree made.tree made.system made.root made.stands in
+    record {
+      bytes = bytes;
+      tree = made.tree;
+      system = made.system;
+      root = made.root;
+      read = read;
+      spelled = system_found Plain bytes made.tree made.spelled;
+      expanded = made.expanded;
+      built = made.stands;
+      printed = subst (Appends out.written out'.written) (sym (ap (λ a. a.output) told) ∙ answer_shown bytes made) grown;
+      solutions = λ fits. (root_has_solutions (ranking_of made.tree) laws point fits made.system made.root over.equations over.inequations tree).0;
+      nonsingular = λ fits. (root_has_solutions (ranking_of made.tree) laws point fits made.system made.root over.equations over.inequations tree).1;
+    }
 
-  -- so does a run that ends with status 0
-  pub ended_is_solved : {E : Type 0} {o : Operations E} (laws : DomainLaws o) {c : Coordinates E} (point : IsPoint o c) → (words : List (List ℕ)) (before after : Input) (out out' : Output) (ending : Ending)
-      → Ends words before after out out' ending → status_of ending ≡ 0 → IsSolvedBy o c before after out.written out'.written
-  ended_is_solved laws point words before after out out' Done ends status = given_is_solved laws point words before after out out' ends
-  ended_is_solved laws point words before after out out' (Syntax fault) ends status = absurd cc
-  ended_is_solved laws point words before after out out' Wide ends status = absurd cc
-  ended_is_solved laws point words before after out out' Large ends status = absurd cc
-  ended_is_solved laws point words before after out out' ReadFault ends status = absurd cc
-  ended_is_solved laws point words before after out out' WriteFault ends status = absurd cc
-  ended_is_solved laws point words before after out out' WriteStuck ends status = absurd cc
-  ended_is_solved laws point words before after out out' NoMemory ends status = absurd cc
-  ended_is_solved laws point words before after out out' TooLong ends status = absurd cc
-  ended_is_solved laws point words before after out out' NotBuilt ends status = absurd cc
+-- so does a run that ends with status 0
+pub ended_is_solved : {E : Type 0} {o : Operations E} (laws : DomainLaws o) {c : Coordinates E} (point : IsPoint o c) → (words : List (List ℕ)) (before after : Input) (out out' : Output) (ending : Ending)
+    → Ends words before after out out' ending → status_of ending ≡ 0 → IsSolvedBy o c before after out.written out'.written
+ended_is_solved laws point words before after out out' Done ends status = given_is_solved laws point words before after out out' ends
+ended_is_solved laws point words before after out out' (Syntax fault) ends status = absurd cc
+ended_is_solved laws point words before after out out' Wide ends status = absurd cc
+ended_is_solved laws point words before after out out' Large ends status = absurd cc
+ended_is_solved laws point words before after out out' ReadFault ends status = absurd cc
+ended_is_solved laws point words before after out out' WriteFault ends status = absurd cc
+ended_is_solved laws point words before after out out' WriteStuck ends status = absurd cc
+ended_is_solved laws point words before after out out' NoMemory ends status = absurd cc
+ended_is_solved laws point words before after out out' TooLong ends status = absurd cc
+ended_is_solved laws point words before after out out' NotBuilt ends status = absurd cc

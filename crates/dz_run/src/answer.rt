@@ -11,7 +11,7 @@ use crate::ending::Ending;
 use crate::root::{Tree, root_of, tree_of_root};
 use crate::system::{Refused, Stop, System, refused_line, system_of};
 use dz_poly::Book;
-use dz_rank::Ranking;
+use dz_rank::{RankFault, Ranking};
 use dz_syntax::{Form, Names, SyntaxKind, SystemTree, read_system};
 use std::alloc::{AllocError, Global};
 
@@ -128,8 +128,12 @@ pub(crate) fn answer(alloc: Global, bytes: &[u8]) -> Result<Told, AllocError>
             _ => return Ok(Told::silent(alloc, Ending::Syntax(fault))),
         },
     };
-    let Ok(ranking) = Ranking::new(alloc, tree.signature, &tree.blocks) else {
-        return Err(AllocError);
+    let ranking = match Ranking::new(alloc, tree.signature, &tree.blocks) {
+        Ok(ranking) => ranking,
+        Err(RankFault::Memory) => return Err(AllocError),
+        // The blocks name each dependent once.
+        Err(RankFault::Twice(_)) => unreachable!(),
+        Err(RankFault::Missing(_)) => unreachable!(),
     };
     let mut book = Book::new(alloc, ranking);
     tree_told(alloc, &mut book, &tree)
