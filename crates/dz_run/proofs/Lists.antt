@@ -13,6 +13,7 @@ use Rattle.dz_poly.specs.Books.{BookValue, IsKept, Lives, Means, polynomial}
 use Rattle.dz_poly.proofs.Books.{lives_on}
 use Rattle.dz_rank.specs.declared.symbols.Symbol.{Symbol}
 use Rattle.dz_syntax.specs.declared.expression.Op.{Op}
+use Rattle.dz_syntax.specs.Systems.{Tree}
 use Rattle.dz_run.specs.declared.system.Group.{Group}
 use Rattle.dz_run.specs.declared.system.Refused.{Refused}
 use Rattle.dz_run.specs.declared.system.Stop.{Stop}
@@ -21,7 +22,7 @@ use Rattle.dz_run.specs.declared.system.Stop.TheVariants as stops
 use Rattle.dz_poly.specs.Ranked.{symbols_under}
 use Rattle.dz_run.specs.declared.system.Group.TheVariants.{Equation, Inequation}
 use Rattle.dz_run.specs.Root.{is_dropped, is_member, kept_norms, root_of}
-use Rattle.dz_run.specs.System.{GivesAll, GivesNumbered, IsRefusal, LiveAll, MeanAll, before, behind, items_answer, numbered, polynomials, System, terms_of}
+use Rattle.dz_run.specs.System.{GivesAll, GivesNumbered, IsRefusal, LiveAll, MeanAll, before, behind, items_answer, numbered, polynomials, ranking_of, System, system_answer, terms_of, within_limits}
 
 -- numbers that live go on living
 pub live_on : (old new : BookValue) (ps : List ℕ) → IsKept old new → LiveAll old ps → LiveAll new ps
@@ -164,3 +165,20 @@ both_roots old mid new es hs kept_es kept_hs live kept kept' equations inequatio
     ap₂ (λ (a b : Polynomials). record { equations = a; inequations = b })
     (same_polynomials mid new kept_es kept' equations.live ∙ equations.are)
     (inequations.are ∙ ap (λ r. kept_norms (symbols_under r) Inequation [] (polynomials mid hs)) kept.ranking ∙ ap (kept_norms (symbols_under old.ranking) Inequation []) (same_polynomials old mid hs kept live))
+
+-- the system of a text, from the values of its equations and then its inequations
+pub system_is : {X : Type 0} (view : X → List ℕ) (old mid new : BookValue) (tree : Tree) (es hs : X) (equations inequations : List (List Op)) → old.ranking ≡ ranking_of tree → IsKept old mid → IsKept mid new
+    → equations ≡ tree.equations → inequations ≡ tree.inequations
+    → GivesAll view mid (Ok es) (items_answer (symbols_under old.ranking) Equation 0 equations) → GivesAll view new (Ok hs) (items_answer (symbols_under mid.ranking) Inequation 0 inequations)
+    → system_answer tree ≡ within_limits (polynomials new (view es)) (polynomials new (view hs))
+unfolding system_answer
+system_is view old mid new tree es hs equations inequations ranking kept kept' e h first second =
+    let g = symbols_under (ranking_of tree) in
+    let one = all_given view mid es _ first in
+    let two = all_given view new hs _ second in
+    let firsts : items_answer g Equation 0 tree.equations ≡ Ok (polynomials mid (view es)) =
+      ap (λ r. items_answer (symbols_under r) Equation 0 tree.equations) (sym ranking) ∙ ap (items_answer (symbols_under old.ranking) Equation 0) (sym e) ∙ one.1 in
+    let seconds : items_answer g Inequation 0 tree.inequations ≡ Ok (polynomials new (view hs)) =
+      ap (λ r. items_answer (symbols_under r) Inequation 0 tree.inequations) (sym (kept.ranking ∙ ranking)) ∙ ap (items_answer (symbols_under mid.ranking) Inequation 0) (sym h) ∙ two.1 in
+    both_given _ _ (polynomials mid (view es)) (polynomials new (view hs)) within_limits firsts seconds
+    ∙ ap (λ qs. within_limits qs (polynomials new (view hs))) (sym (same_polynomials mid new (view es) kept' one.0))

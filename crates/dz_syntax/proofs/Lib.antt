@@ -19,4 +19,5 @@ pub mod SystemReadings
 pub mod Postfix
 pub mod SymbolsFit
 pub mod SystemExpressions
+pub mod Ranked
 pub mod NameTokens

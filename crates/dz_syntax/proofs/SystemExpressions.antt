@@ -1,5 +1,5 @@
 -- The items of a system are expressions over its names.
-use Rattle.std.proofs.Common.{ℕ, zero, suc, ◌<◌, length, slice_index_or, List, [], ◌∷◌, ◌++◌, Result, Ok, Err, All, refl, sym, subst, inl, inr, arith}
+use Rattle.std.proofs.Common.{◌≡◌, ℕ, zero, suc, ◌<◌, length, slice_index_or, List, [], ◌∷◌, ◌++◌, Result, Ok, Err, All, refl, sym, subst, inl, inr, arith}
 use Rattle.std.specs.Prelude.{IfOk}
 use Rattle.std.proofs.lemmas.List.Elements.{All-append}
 use Rattle.dz_syntax.specs.declared.fault.SyntaxFault.{SyntaxFault}
@@ -70,6 +70,10 @@ system_has form bytes tree a =
       questions = rest_is_expressions form (length bytes) a.0 a.7 a.4 a.11;
     })
 
+-- the items of a tree that is read are expressions over its signature
+pub system_expressions : (form : Form) (bytes : List ℕ) (tree : Tree) → system_of form bytes ≡ Ok tree → HasExpressions tree
+system_expressions form bytes tree e = system_has form bytes tree (system_found form bytes tree e)
+
 pub have_expressions : (form : Form) (bytes : List ℕ) (r : Result SystemTree SyntaxFault) → Answers (λ t. tree_of t) r (system_of form bytes) → IfOk r (λ t. HasExpressions (tree_of t))
-have_expressions form bytes (Ok t) e = system_has form bytes (tree_of t) (system_found form bytes (tree_of t) e)
+have_expressions form bytes (Ok t) e = system_expressions form bytes (tree_of t) e
 have_expressions form bytes (Err f) e = tt

@@ -1,7 +1,8 @@
+use Rattle.std.proofs.Common.{◌∙◌, ap, subst, Some, Option}
+use Rattle.dz_run.specs.declared.root.Tree.{Tree}
+use Rattle.dz_run.specs.Root.{TreeLives}
 use Rattle.dz_run.proofs.answer.built_answer.Goals as goal
 
 pub chain_document-requires-clause-lives : goal.chain_document-requires-clause-lives
 chain_document-requires-clause-lives c =
-    let a = c.deref.ensures.value in
-    let b = c.in-Some-Chain.is in
-    ?
+    rw c.deref.ensures.value (subst (λ (o : Option Tree). TreeLives c.args.book.now o) (c.in-Some-Chain.is ∙ ap (λ t. Some t) c.in-Some-Chain.field-0-is) c.requires.lives)
