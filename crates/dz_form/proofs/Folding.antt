@@ -1,12 +1,12 @@
 -- The steps of an item on the values above those of a book.
-use Rattle.std.proofs.Common.{◌≡◌, ◌<◌, ◌≤◌, ◌∙◌, sym, ap, subst, refl, ℕ, zero, suc, ◌+◌, List, [], ◌∷◌, ◌++◌, length, take, drop, reverse, Result, Ok, Err, Option, Some, arith, inl, inr}
-use Rattle.std.specs.Prelude.{⊤, slice_get, slice_index_or}
+use Rattle.std.proofs.Common.{◌≡◌, ◌<◌, ◌≤◌, ◌∙◌, sym, ap, subst, refl, ℕ, zero, suc, ◌+◌, List, [], ◌∷◌, ◌++◌, length, take, drop, reverse, Result, Ok, Err, Some, arith, inl, inr}
+use Rattle.std.specs.Prelude.{slice_get, slice_index_or}
 use Rattle.std.proofs.lemmas.List.{length-append, length-reverse, reverse-append, reverse-reverse, drop_all, drop_more, take_at}
 use Rattle.dz_algebra.specs.Polynomial.{Polynomial, polynomial_negative, symbol_polynomial}
 use Rattle.dz_algebra.specs.Size.{Refusal, difference_answer, product_answer, sum_answer}
 use Rattle.dz_algebra.specs.Symbols.{Symbols}
 use Rattle.dz_rank.specs.declared.symbols.Symbol as rank
-use Rattle.dz_poly.specs.Books.{BookValue, Gives, IsAdded, IsKept, IsStop, Means, polynomial}
+use Rattle.dz_poly.specs.Books.{BookValue, Gives, IsAdded, IsKept, IsStop, Means}
 use Rattle.dz_poly.specs.declared.PolyStop.{PolyStop}
 use Rattle.dz_poly.specs.Ranked.{symbols_under}
 use Rattle.dz_poly.specs.Terms.{constant_polynomial}

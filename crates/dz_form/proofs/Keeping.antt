@@ -1,15 +1,14 @@
 -- Operations that add nothing up answer the contributions themselves.
-use Rattle.std.proofs.Common.{◌≡◌, ◌≢◌, ◌≤◌, ◌∙◌, sym, ap, subst, refl, ℕ, Bool, true, List, [], ◌∷◌, map, ℤ, pos, neg_ℤ, unsigned_abs, Option, None, Result, Ok, arith, ap₂, ◌&&◌, le-leb}
-use Rattle.std.specs.Prelude.{All, nat_le}
+use Rattle.std.proofs.Common.{◌≡◌, ◌≤◌, ◌∙◌, ap, subst, refl, true, List, [], ◌∷◌, map, ℤ, pos, neg_ℤ, unsigned_abs, None, Ok, arith, ap₂, ◌&&◌, le-leb}
+use Rattle.std.specs.Prelude.{All}
 use Rattle.std.proofs.lemmas.Int.{ints}
 use Rattle.std.specs.declared.cmp.Ordering.{Ordering}
-use Rattle.std.proofs.lemmas.List.Elements.{All-head, All-tail, All-cons, All-nil}
-use Rattle.dz_algebra.specs.Amount.{amount, amounts, amounts_fit, gathered, greatest}
-use Rattle.dz_algebra.specs.Order.{IsOrder, IsAbove}
+use Rattle.std.proofs.lemmas.List.Elements.{All-head, All-tail, All-cons}
+use Rattle.dz_algebra.specs.Amount.{amounts, amounts_fit, gathered, greatest}
+use Rattle.dz_algebra.specs.Order.{IsAbove}
 use Rattle.dz_algebra.specs.Monomial.{Monomial, monomial_cmp}
-use Rattle.dz_algebra.specs.Polynomial.{Polynomial, Contributions, IsPolynomial, PolynomialIn, collect, negated}
+use Rattle.dz_algebra.specs.Polynomial.{Polynomial, IsPolynomial, PolynomialIn, negated}
 use Rattle.dz_algebra.specs.Size.{difference_answer, fits, limit_of, operation, support}
-use Rattle.dz_algebra.specs.Symbols.{Symbols}
 use Rattle.dz_algebra.proofs.Canonical.{collected}
 use Rattle.dz_algebra.proofs.Operations.{gathered_polynomial, operation_ok}
 use Rattle.dz_rank.specs.declared.symbols.Symbol.{Symbol}

@@ -1,5 +1,5 @@
 -- Texts with marks between them, written one after the other.
-use Rattle.std.proofs.Common.{◌≡◌, ◌<◌, ◌≤◌, ◌∙◌, sym, ap, refl, subst, ℕ, zero, suc, ◌+◌, ◌-◌, ◌==◌, ◌&&◌, Bool, true, false, cond, List, [], ◌∷◌, ◌++◌, length, take, drop, map, append_assoc, append-nil, arith, codes}
+use Rattle.std.proofs.Common.{◌≡◌, ◌<◌, ◌≤◌, ◌∙◌, sym, ap, refl, subst, ℕ, zero, suc, ◌+◌, ◌==◌, ◌&&◌, Bool, true, false, cond, List, [], ◌∷◌, ◌++◌, length, take, drop, map, append_assoc, append-nil, arith, codes}
 use Rattle.std.specs.Prelude.{slice_get, Some, slice_index_or, sum}
 use Rattle.std.specs.List.{fold, list_all}
 use Rattle.std.proofs.lemmas.Bool.Decides.{nat_tests}

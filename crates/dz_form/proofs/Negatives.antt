@@ -1,9 +1,8 @@
 -- The latest value gives place to its negative.
-use Rattle.std.proofs.Common.{◌≡◌, ◌<◌, ◌∙◌, sym, ap, subst, refl, ℕ, ◌+◌, List, [], ◌∷◌, ◌++◌, length, take, Result, Ok, Err, arith, inl, inr}
-use Rattle.dz_algebra.specs.Polynomial.{Polynomial, polynomial_negative}
-use Rattle.dz_algebra.specs.Size.{Refusal, difference_answer}
-use Rattle.dz_rank.specs.declared.symbols.Symbol.{Symbol}
-use Rattle.dz_poly.specs.Books.{BookValue, Gives, IsBook, IsKeepable, IsKept, IsStop, Means, polynomial}
+use Rattle.std.proofs.Common.{◌≡◌, ◌<◌, ◌∙◌, ap, subst, refl, ℕ, ◌+◌, [], ◌∷◌, ◌++◌, length, take, Ok, arith}
+use Rattle.dz_algebra.specs.Polynomial.{polynomial_negative}
+use Rattle.dz_algebra.specs.Size.{difference_answer}
+use Rattle.dz_poly.specs.Books.{BookValue, Gives, IsBook, IsKept, IsStop, Means, polynomial}
 use Rattle.dz_poly.specs.declared.PolyStop.{PolyStop}
 use Rattle.dz_poly.specs.Ranked.{symbols_under}
 use Rattle.dz_poly.proofs.Books.{kept_trans}

@@ -1,6 +1,6 @@
 -- The latest polynomials of a book, and what comes in their place.
-use Rattle.std.proofs.Common.{◌≡◌, ◌<◌, ◌≤◌, ◌+◌, ◌∙◌, sym, ap, subst, ℕ, zero, suc, List, [], ◌∷◌, ◌++◌, length, take, reverse, Result, Ok, Err, Option, Some, arith, refl, inl, inr}
-use Rattle.std.specs.Prelude.{⊤, slice_get, slice_index_or, unsigned_abs, ◌^◌, ◌-◌}
+use Rattle.std.proofs.Common.{◌≡◌, ◌<◌, ◌≤◌, ◌+◌, ◌∙◌, sym, ap, subst, ℕ, zero, suc, [], ◌∷◌, ◌++◌, length, take, reverse, Result, Ok, Err, Some, arith, refl, inl, inr}
+use Rattle.std.specs.Prelude.{slice_get, slice_index_or, unsigned_abs, ◌^◌}
 use Rattle.std.proofs.Common.{ℤ, pos, to_z, of_z}
 use Rattle.std.specs.Int.{w128}
 use Rattle.std.proofs.lemmas.Int.{fits_signed_from_abs, to_z-of_z}
@@ -9,7 +9,6 @@ use Rattle.std.proofs.lemmas.List.{reverse-append, take_all, take_more, take-tak
 use Rattle.dz_algebra.specs.Polynomial.{Polynomial}
 use Rattle.dz_algebra.specs.Size.{Refusal}
 use Rattle.dz_rank.specs.declared.symbols.Symbol.{Symbol}
-use Rattle.dz_rank.specs.Rankings.{RankingValue}
 use Rattle.dz_poly.specs.Books.{BookValue, Gives, IsAdded, IsKept, IsStop, Means, polynomial}
 use Rattle.dz_poly.specs.declared.PolyStop.{PolyStop}
 use Rattle.dz_form.specs.Values.{GivesValues, Polynomials, onto, values_in}

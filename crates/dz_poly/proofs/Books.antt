@@ -43,7 +43,7 @@ one_left {X} {Y} f e (x ∷ xs) ys i j le lt swapped moved =
     let len : length ys ≡ length (x ∷ xs) = ap length swapped ∙ length-set (slice_set (x ∷ xs) i (slice_index_or (x ∷ xs) j x)) j (slice_index_or (x ∷ xs) i x) ∙ length-set (x ∷ xs) i (slice_index_or (x ∷ xs) j x) in
     let front : take i ys ≡ take i (x ∷ xs) = ap (take i) swapped ∙ swapped_front (x ∷ xs) i j le in
     let whole : take (i + 1) ys ≡ take i (x ∷ xs) ++ slice_index_or (x ∷ xs) j x ∷ [] =
-      take_more ys i x (omega arith) ∙ ap (λ (zs : List X). zs ++ slice_index_or ys i x ∷ []) front ∙ ap (λ (z : X). take i (x ∷ xs) ++ z ∷ []) (moved x) in
+    take_more ys i x (omega arith) ∙ ap (λ (zs : List X). zs ++ slice_index_or ys i x ∷ []) front ∙ ap (λ (z : X). take i (x ∷ xs) ++ z ∷ []) (moved x) in
     ap (map f) whole ∙ map-append f (take i (x ∷ xs)) (slice_index_or (x ∷ xs) j x ∷ [])
     ∙ ap (λ (zs : List Y). zs ++ f (slice_index_or (x ∷ xs) j x) ∷ []) (sym (take-map f i (x ∷ xs)))
     ∙ ap (λ (z : Y). take i (map f (x ∷ xs)) ++ z ∷ []) (sym (get_or-map f (x ∷ xs) j x e lt))

@@ -32,7 +32,8 @@ pub use dividing::{exact_div_int, normalise};
 pub use dz_algebra::Limit;
 pub use making::{constant, symbol_poly, zero};
 pub use reading::{
-    coefficient_at, degree_in, exponent_at, power_at, power_count, same, symbol_at, symbol_count, term_count,
+    coefficient_at, degree_in, exponent_at, power_at, power_count, same, symbol_at, symbol_count,
+    term_count,
 };
 use std::alloc::{AllocError, AllocFailed};
 use thiserror::Error;

@@ -1,9 +1,4 @@
-use Rattle.std.proofs.Common.{refl}
-use Rattle.dz_poly.specs.Ranked.{symbols_under}
-use Rattle.dz_syntax.specs.declared.expression.Op.TheVariants as ops
-use Rattle.dz_form.specs.Values.{step_answer}
 use Rattle.dz_form.proofs.Negatives.{negated, negation_refused}
-use Rattle.dz_form.proofs.Stacks.{one_replaced}
 use Rattle.dz_form.proofs.expansion.negate_latest.Goals as goal
 
 pub returns-in-Ok-clause-made : goal.returns-in-Ok-clause-made

@@ -1,4 +1,4 @@
-use Rattle.std.proofs.Common.{ap, subst, ◌≡◌}
+use Rattle.std.proofs.Common.{subst}
 use Rattle.dz_poly.specs.Books.{Means}
 use Rattle.dz_poly.specs.Terms.{constant_polynomial}
 use Rattle.dz_syntax.specs.Postfix.{IsStep}

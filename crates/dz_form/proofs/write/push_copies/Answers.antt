@@ -1,4 +1,4 @@
-use Rattle.std.proofs.Common.{refl, sym, ap, ◌∙◌, ◌++◌, ◌&&◌, ◌==◌, cond, [], codes, List, ℕ, Bool, false, ◌+◌, ◌≡◌}
+use Rattle.std.proofs.Common.{ap, ◌∙◌, ◌++◌, cond, [], codes, Bool}
 use Rattle.dz_form.proofs.Marks.{copies_more, no_longer}
 use Rattle.dz_form.proofs.write.push_copies.Goals as goal
 

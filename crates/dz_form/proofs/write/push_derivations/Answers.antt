@@ -1,4 +1,4 @@
-use Rattle.std.proofs.Common.{◌≡◌, ◌<◌, ◌≤◌, length, arith, ap, subst, ℕ}
+use Rattle.std.proofs.Common.{◌<◌, ◌≤◌, length, arith, ap, subst}
 use Rattle.std.specs.Prelude.{slice_index_or}
 use Rattle.dz_rank.specs.declared.rankings.Signature.{Signature}
 use Rattle.dz_form.specs.Texts.{independents}

@@ -1,4 +1,4 @@
-use Rattle.std.proofs.Common.{◌≡◌, ◌++◌, ◌==◌, ◌&&◌, true, codes, drop, Bool, List, ℕ}
+use Rattle.std.proofs.Common.{◌≡◌, ◌++◌, true, codes, drop}
 use Rattle.dz_form.specs.Texts.{independents, repeated}
 use Rattle.dz_form.specs.Writing.{marked}
 use Rattle.dz_form.proofs.write.push_derivations.Given as goal
