@@ -2,10 +2,12 @@
 #![tactic(auto)]
 
 #[cfg(test)]
-mod first_form;
+mod forms;
 #[cfg(test)]
 mod laws;
 #[cfg(test)]
 mod outside;
 #[cfg(test)]
 mod run;
+#[cfg(test)]
+mod systems;

@@ -1,11 +1,10 @@
 // The statuses of the outside: faults, an output that takes nothing, too many bytes, and what is not built yet.
 use crate::run::{Outside, ended, run};
+use crate::systems::CLOSED;
 use std::alloc::{AllocError, Global};
 use std::test::Fail;
 
 const NUMBER: &str = "derivations x; ranking grlexA [u]; equations 5; inequations ; end";
-
-const CLOSED: &str = "blad certificate 1\nbudget 1000000\ntree\nclosed\nchains 0\nend\n";
 
 /// A source of the system whose equation is a number, and an output, neither of which fails.
 fn number(alloc: Global) -> Result<Outside, AllocError> {

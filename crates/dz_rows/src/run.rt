@@ -60,6 +60,20 @@ pub(crate) fn run(alloc: Global, words: &str, outside: Outside) -> Result<Ran, A
     run_at(alloc, words, outside, &at)
 }
 
+/// Whether the program decomposes a text so, where nothing outside fails.
+pub(crate) fn ends(
+    alloc: Global,
+    text: &str,
+    status: u8,
+    output: &str,
+    message: &str,
+) -> Result<bool, AllocError> {
+    let outside = Outside::ample(alloc, text.as_bytes().to_vec(alloc)?);
+    let expected = ended(alloc, status, output, message)?;
+    let ran = run(alloc, "decompose", outside)?;
+    Ok(ran == expected)
+}
+
 /// Runs the program with these words, separated by blanks, at a point.
 pub(crate) fn run_at<D: Domain>(
     alloc: Global,
