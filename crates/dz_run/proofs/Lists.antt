@@ -1,8 +1,8 @@
 -- Lists of polynomials of a book, and what is made of them one after the other.
-use Rattle.std.proofs.Common.{◌≡◌, ◌<◌, ◌≤◌, ◌+◌, ◌-◌, ◌∙◌, ◌^◌, ◌||◌, ◌++◌, sym, ap, ap₂, subst, refl, ℕ, zero, suc, Bool, true, false, List, [], ◌∷◌, length, map, drop, Option, Some, None, Result, Ok, Err, if◌then◌else◌, append_assoc, append-nil, arith}
-use Rattle.std.specs.Prelude.{⊤, All, min, slice_get, slice_index_or}
+use Rattle.std.proofs.Common.{◌≡◌, ◌<◌, ◌≤◌, ◌+◌, ◌-◌, ◌∙◌, ◌^◌, ◌||◌, ◌++◌, sym, ap, ap₂, subst, refl, ℕ, Bool, true, false, List, [], ◌∷◌, length, drop, Result, Ok, Err, if◌then◌else◌, append_assoc, arith}
+use Rattle.std.specs.Prelude.{min, slice_index_or}
 use Rattle.std.proofs.lemmas.List.{map-append, drop_more, drop_all}
-use Rattle.std.proofs.lemmas.List.Elements.{All-cons, All-head, All-nil, All-push, All-tail, All-weaker}
+use Rattle.std.proofs.lemmas.List.Elements.{All-head, All-push, All-tail, All-weaker}
 use Rattle.dz_algebra.specs.Norm.{norm}
 use Rattle.dz_algebra.specs.Polynomial.{Polynomial}
 use Rattle.dz_algebra.specs.Symbols.{Symbols}
@@ -16,13 +16,10 @@ use Rattle.dz_syntax.specs.declared.expression.Op.{Op}
 use Rattle.dz_syntax.specs.Systems.{Tree}
 use Rattle.dz_run.specs.declared.system.Group.{Group}
 use Rattle.dz_run.specs.declared.system.Refused.{Refused}
-use Rattle.dz_run.specs.declared.system.Stop.{Stop}
-use Rattle.dz_run.specs.declared.system.Stop.TheVariants.{Memory}
-use Rattle.dz_run.specs.declared.system.Stop.TheVariants as stops
 use Rattle.dz_poly.specs.Ranked.{symbols_under}
 use Rattle.dz_run.specs.declared.system.Group.TheVariants.{Equation, Inequation}
 use Rattle.dz_run.specs.Root.{is_dropped, is_member, kept_norms, root_of}
-use Rattle.dz_run.specs.System.{GivesAll, GivesNumbered, IsRefusal, LiveAll, MeanAll, before, behind, items_answer, numbered, polynomials, ranking_of, System, system_answer, terms_of, within_limits}
+use Rattle.dz_run.specs.System.{GivesAll, GivesNumbered, LiveAll, MeanAll, before, behind, items_answer, numbered, polynomials, ranking_of, System, system_answer, terms_of, within_limits}
 
 -- numbers that live go on living
 pub live_on : (old new : BookValue) (ps : List ℕ) → IsKept old new → LiveAll old ps → LiveAll new ps
@@ -39,14 +36,16 @@ same_polynomials old new (p ∷ ps) kept live =
 pub polynomials_push : (book : BookValue) (ps : List ℕ) (p : ℕ) → polynomials book (ps ++ p ∷ []) ≡ polynomials book ps ++ polynomial book p ∷ []
 polynomials_push book ps p = map-append (λ p. polynomial book p) ps (p ∷ [])
 
+-- numbers that live, and one more
 pub live_push : (book : BookValue) (ps : List ℕ) (p : ℕ) → LiveAll book ps → Lives book p → LiveAll book (ps ++ p ∷ [])
 live_push book ps p live l = All-push (λ p. Lives book p) ps p live l
 
 -- ---- the root
--- a norm that is dropped, or that stands among those kept, changes nothing
+-- a norm that is dropped changes nothing
 pub norm_dropped : (g : Symbols Symbol) (group : Group) (kept : Polynomials) (p : Polynomial Symbol) → is_dropped g group (norm p) ≡ true → kept_norms g group kept (p ∷ []) ≡ kept
 norm_dropped g group kept p e = ap (λ b. if b || is_member g (norm p) kept then kept else kept ++ norm p ∷ []) e
 
+-- so does a norm that stands among those kept
 pub norm_stands : (g : Symbols Symbol) (group : Group) (kept : Polynomials) (p : Polynomial Symbol) → is_member g (norm p) kept ≡ true → kept_norms g group kept (p ∷ []) ≡ kept
 norm_stands g group kept p e = ap (λ b. if is_dropped g group (norm p) || b then kept else kept ++ norm p ∷ []) e ∙ either (is_dropped g group (norm p))
   where
@@ -63,12 +62,15 @@ module _ (old made : BookValue) (group : Group) (p q : ℕ) (kept : List ℕ) (l
   abbrev g : Symbols Symbol
   g = symbols_under old.ranking
 
+  -- what is kept means the same
   same_kept : polynomials made kept ≡ polynomials old kept
   same_kept = same_polynomials old made kept keeps live
 
+  -- the norm is dropped in both books or in neither
   same_dropped : is_dropped (symbols_under made.ranking) group (polynomial made q) ≡ is_dropped g group (norm (polynomial old p))
   same_dropped = ap (λ r. is_dropped (symbols_under r) group (polynomial made q)) keeps.ranking ∙ ap (is_dropped g group) (means_polynomial made q (norm (polynomial old p)) means)
 
+  -- and stands among those kept in both or in neither
   same_member : is_member (symbols_under made.ranking) (polynomial made q) (polynomials made kept) ≡ is_member g (norm (polynomial old p)) (polynomials old kept)
   same_member =
       ap (λ r. is_member (symbols_under r) (polynomial made q) (polynomials made kept)) keeps.ranking
@@ -88,18 +90,11 @@ module _ (old made : BookValue) (group : Group) (p q : ℕ) (kept : List ℕ) (l
   norm_not all e f is = subst (λ xs. MeanAll made xs (kept_norms g group (polynomials old kept) (polynomial old p ∷ []))) (sym is) (record {
     live = live_push made kept q (live_on old made kept keeps live) (means_lives made q (norm (polynomial old p)) means);
     are = polynomials_push made kept q ∙ ap (λ (qs : Polynomials). qs ++ polynomial made q ∷ []) same_kept ∙ ap (λ (x : Polynomial Symbol). polynomials old kept ++ x ∷ []) (means_polynomial made q (norm (polynomial old p)) means)
-      ∙ sym (norm_kept g group (polynomials old kept) (polynomial old p) (sym (e ∙ same_dropped)) (sym (f ∙ same_member)));
+        ∙ sym (norm_kept g group (polynomials old kept) (polynomial old p) (sym (e ∙ same_dropped)) (sym (f ∙ same_member)));
   })
 
--- the norms of polynomials are those of the first, and then those of the others
-pub norms_more : (g : Symbols Symbol) (group : Group) (kept : Polynomials) (p : Polynomial Symbol) (ps : Polynomials) → kept_norms g group kept (p ∷ ps) ≡ kept_norms g group (kept_norms g group kept (p ∷ [])) ps
-norms_more g group kept p ps = by_test (is_dropped g group (norm p) || is_member g (norm p) kept)
-  where
-    by_test : (b : Bool) → (if b then kept_norms g group kept ps else kept_norms g group (kept ++ norm p ∷ []) ps) ≡ kept_norms g group (if b then kept else kept ++ norm p ∷ []) ps
-    by_test true = refl
-    by_test false = refl
-
 -- ---- items
+-- values before an answer, one by one
 pub behind_before : (ps : Polynomials) (p : Polynomial Symbol) (r : Result Polynomials Refused) → behind (ps ++ p ∷ []) r ≡ behind ps (before p r)
 behind_before ps p (Ok qs) = ap (λ (xs : Polynomials). Ok xs) (append_assoc ps (p ∷ []) qs)
 behind_before ps p (Err e) = refl
@@ -119,12 +114,13 @@ items_more old now made group items i d ps p total inside live kept kept' given 
     let item = slice_index_or items i d in
     let answer = numbered_given made p _ given in
     let value : numbered group (i + 1) (item_answer g item) ≡ Ok answer.0 = sym (ap (λ r. numbered group (i + 1) (item_answer (symbols_under r) item)) kept.ranking) ∙ answer.1 in
-    let rest = items_answer g group (i + 1) (drop (i + 1) items) in
-    (live_push made ps p (live_on now made ps kept' live) (means_lives made p answer.0 answer.2),
-    ap (λ qs. behind qs rest) (polynomials_push made ps p ∙ ap (λ (qs : Polynomials). qs ++ polynomial made p ∷ []) (same_polynomials now made ps kept' live) ∙ ap (λ (q : Polynomial Symbol). polynomials now ps ++ q ∷ []) (means_polynomial made p answer.0 answer.2))
-    ∙ behind_before (polynomials now ps) answer.0 rest
-    ∙ ap (λ r. behind (polynomials now ps) (r >>= λ q. before q rest)) (sym value)
-    ∙ ap (λ (xs : List (List Op)). behind (polynomials now ps) (items_answer g group i xs)) (sym (drop_more items i d inside)) ∙ whole)
+    let rest = items_answer g group (i + 1) (drop (i + 1) items) in (
+      live_push made ps p (live_on now made ps kept' live) (means_lives made p answer.0 answer.2),
+      ap (λ qs. behind qs rest) (polynomials_push made ps p ∙ ap (λ (qs : Polynomials). qs ++ polynomial made p ∷ []) (same_polynomials now made ps kept' live) ∙ ap (λ (q : Polynomial Symbol). polynomials now ps ++ q ∷ []) (means_polynomial made p answer.0 answer.2))
+          ∙ behind_before (polynomials now ps) answer.0 rest
+          ∙ ap (λ r. behind (polynomials now ps) (r >>= λ q. before q rest)) (sym value)
+          ∙ ap (λ (xs : List (List Op)). behind (polynomials now ps) (items_answer g group i xs)) (sym (drop_more items i d inside)) ∙ whole,
+    )
 
 -- the answer that numbers mean
 pub all_given : {X : Type 0} (view : X → List ℕ) (book : BookValue) (x : X) (r : Result Polynomials Refused) → GivesAll view book (Ok x) r → LiveAll book (view x) × (r ≡ Ok (polynomials book (view x)))
@@ -135,19 +131,7 @@ all_given view book x (Err e) given = absurd given
 pub both_given : (r s : Result Polynomials Refused) (es hs : Polynomials) (f : Polynomials → Polynomials → Result System Refused) → r ≡ Ok es → s ≡ Ok hs → (r >>= λ es. s >>= λ hs. f es hs) ≡ f es hs
 both_given r s es hs f e h = ap (λ x. x >>= λ es. s >>= λ hs. f es hs) e ∙ ap (λ x. x >>= λ hs. f es hs) h
 
--- a group is refused
-pub first_refused : (stop : Stop) (r : Result Polynomials Refused) (f : Polynomials → Result System Refused) → IsRefusal stop r → IsRefusal stop (r >>= f)
-first_refused Memory r f h = tt
-first_refused (stops.Refused e) r f h = ap (λ x. x >>= f) h
-
-pub second_refused : (stop : Stop) (r s : Result Polynomials Refused) (es : Polynomials) (f : Polynomials → Polynomials → Result System Refused) → r ≡ Ok es → IsRefusal stop s → IsRefusal stop (r >>= λ es. s >>= λ hs. f es hs)
-second_refused Memory r s es f e h = tt
-second_refused (stops.Refused x) r s es f e h = ap (λ y. y >>= λ es. s >>= λ hs. f es hs) e ∙ ap (λ y. y >>= λ hs. f es hs) h
-
--- one more number of terms
-pub terms_more : (book : BookValue) (ps : List ℕ) (i d : ℕ) → i < length ps → terms_of (polynomials book (drop i ps)) ≡ length (polynomial book (slice_index_or ps i d)) + terms_of (polynomials book (drop (i + 1) ps))
-terms_more book ps i d inside = ap (λ (qs : List ℕ). terms_of (polynomials book qs)) (drop_more ps i d inside)
-
+-- no number is left
 pub terms_done : (book : BookValue) (ps : List ℕ) (i terms : ℕ) → length ps ≤ i → terms < 2 ^ 64 → min (terms + terms_of (polynomials book (drop i ps))) (2 ^ 64 - 1) ≡ min (terms_of (polynomials book ps)) (2 ^ 64 - 1)
     → terms ≡ min (terms_of (polynomials book ps)) (2 ^ 64 - 1)
 terms_done book ps i terms past fits whole =
@@ -177,8 +161,8 @@ system_is view old mid new tree es hs equations inequations ranking kept kept' e
     let one = all_given view mid es _ first in
     let two = all_given view new hs _ second in
     let firsts : items_answer g Equation 0 tree.equations ≡ Ok (polynomials mid (view es)) =
-      ap (λ r. items_answer (symbols_under r) Equation 0 tree.equations) (sym ranking) ∙ ap (items_answer (symbols_under old.ranking) Equation 0) (sym e) ∙ one.1 in
+    ap (λ r. items_answer (symbols_under r) Equation 0 tree.equations) (sym ranking) ∙ ap (items_answer (symbols_under old.ranking) Equation 0) (sym e) ∙ one.1 in
     let seconds : items_answer g Inequation 0 tree.inequations ≡ Ok (polynomials new (view hs)) =
-      ap (λ r. items_answer (symbols_under r) Inequation 0 tree.inequations) (sym (kept.ranking ∙ ranking)) ∙ ap (items_answer (symbols_under mid.ranking) Inequation 0) (sym h) ∙ two.1 in
+    ap (λ r. items_answer (symbols_under r) Inequation 0 tree.inequations) (sym (kept.ranking ∙ ranking)) ∙ ap (items_answer (symbols_under mid.ranking) Inequation 0) (sym h) ∙ two.1 in
     both_given _ _ (polynomials mid (view es)) (polynomials new (view hs)) within_limits firsts seconds
     ∙ ap (λ qs. within_limits qs (polynomials new (view hs))) (sym (same_polynomials mid new (view es) kept' one.0))

@@ -1,9 +1,8 @@
 -- A ranking has no fault.
-use Rattle.std.proofs.Common.{◌≡◌, ◌≢◌, ◌<◌, ◌∙◌, sym, refl, ℕ, List, length, take, arith}
+use Rattle.std.proofs.Common.{◌≡◌, ◌<◌, ◌∙◌, sym, ℕ, List, length, take, arith}
 use Rattle.std.specs.Prelude.{slice_index_or}
 use Rattle.std.proofs.lemmas.List.{get_or-take, get_or_default, length-take-le}
-use Rattle.std.specs.List.{AllPairs, Contains}
-use Rattle.dz_rank.specs.Rankings.{HasAllBelow, IsFaultOf, IsFirstRepeat, IsLeastMissing, IsRanking, IsRepeatFree, RankingValue, dependents_of}
+use Rattle.dz_rank.specs.Rankings.{IsFaultOf, IsFirstRepeat, IsRanking, IsRepeatFree, RankingValue, dependents_of}
 use Rattle.dz_rank.specs.declared.rankings.RankFault.TheVariants.{Twice, Missing}
 
 -- no number stands twice in a list without repeats

@@ -1,12 +1,9 @@
 -- The tree of one line that is built for a system has the solutions of the system.
-use Rattle.std.proofs.Common.{◌≡◌, ◌≢◌, ◌⊎◌, ◌↔◌, ◌≤◌, ◌&&◌, ◌||◌, not, ℕ, zero, suc, Bool, true, false, if◌then◌else◌, [], ◌∷◌, ◌++◌, All, ℤ, pos, negsuc, Some, None, refl, subst, arith, sym, ap, ap₂, ◌∙◌, inl, inr, eqb-true}
+use Rattle.std.proofs.Common.{◌≡◌, ◌≢◌, ◌⊎◌, ◌↔◌, ◌≤◌, ◌||◌, not, ℕ, zero, suc, Bool, true, false, if◌then◌else◌, [], ◌∷◌, ◌++◌, All, ℤ, pos, negsuc, Some, None, refl, subst, arith, sym, ap, ◌∙◌, inl, inr, eqb-true}
 use Rattle.std.specs.Prelude.{⊤}
 use Rattle.std.proofs.lemmas.List.Elements.{All-cons, All-head, All-nil, All-tail}
-use Rattle.std.specs.declared.cmp.Ordering.{Ordering}
-use Rattle.std.specs.declared.cmp.Ordering.TheVariants.{Less, Equal, Greater}
 use Rattle.dz_algebra.specs.Domain.{Operations, DomainLaws, copies}
 use Rattle.dz_algebra.specs.Ring.{Ring, Value, same_value, values_arithmetic, ring_of_values, product_zero, negative_negative, negative_zero}
-use Rattle.dz_algebra.specs.Monomial.{monomial_cmp}
 use Rattle.dz_algebra.specs.Polynomial.{Contributions, Polynomial, IsPolynomial, PolynomialIn}
 use Rattle.dz_algebra.specs.Parts.{coefficient_of, degree, initial, is_ground, leader, separant}
 use Rattle.dz_algebra.specs.Norm.{norm, signed_content}
@@ -17,7 +14,6 @@ use Rattle.dz_algebra.proofs.DomainValues.{value_characteristic, value_divisors,
 use Rattle.dz_algebra.proofs.Inside.{in_coefficient, in_norm}
 use Rattle.dz_algebra.proofs.NormLaws.{norm_is}
 use Rattle.dz_algebra.proofs.Norms.{signed_content_nonzero, value_norm}
-use Rattle.dz_algebra.proofs.Orders.{same_monomial}
 use Rattle.dz_domain.specs.Point.{Coordinates, FitsSignature, IsPoint, symbol_value, value_at}
 use Rattle.dz_domain.proofs.Points.{symbol_is_value}
 use Rattle.dz_domain.proofs.PointValues.{ground_value}
@@ -29,20 +25,11 @@ use Rattle.dz_rank.specs.Symbols.{BelongsTo}
 use Rattle.dz_rank.specs.declared.symbols.Symbol.{Symbol}
 use Rattle.dz_run.specs.declared.system.Group.{Group}
 use Rattle.dz_run.specs.declared.system.Group.TheVariants.{Equation, Inequation}
-use Rattle.dz_run.specs.Root.{IsNonsingular, Root, RootNonsingular, Solves, SolvesRoot, chain, closed, has_unit, has_zero, is_closed, is_dropped, is_equal, is_linear, is_linear_in, is_member, is_unit, is_zero, kept_norms, resting, root_of, same, same_whole, tree_of_root}
+use Rattle.dz_run.specs.Root.{IsNonsingular, Root, RootNonsingular, Solves, SolvesRoot, chain, closed, has_unit, has_zero, is_closed, is_dropped, is_linear, is_linear_in, is_member, is_unit, is_zero, kept_norms, resting, root_of, same, tree_of_root}
 use Rattle.dz_run.specs.System.{System}
+use Rattle.dz_run.proofs.EqualTests.{and_left, and_right, same_is}
 
 -- ---- tests
--- a conjunction that holds has its first part
-and_left : (a b : Bool) → (a && b) ≡ true → a ≡ true
-and_left true b e = refl
-and_left false b e = e
-
--- and its second
-and_right : (a b : Bool) → (a && b) ≡ true → b ≡ true
-and_right true b e = e
-and_right false b e = cc
-
 -- a disjunction that holds has one of its parts
 or_parts : (a b : Bool) → (a || b) ≡ true → (a ≡ true) ⊎ (b ≡ true)
 or_parts true b e = inl refl
@@ -62,31 +49,6 @@ not_empty (t ∷ p) e h = cc
 led_not_empty : (r : RankingValue) (p : Polynomial Symbol) (v : Symbol) → leader (symbols_under r) p ≡ Some v → p ≢ []
 led_not_empty r [] v e h = absurd cc
 led_not_empty r (t ∷ p) v e h = cc
-
--- what is equal by the test is Equal
-equal_by_test : (o : Ordering) → is_equal o ≡ true → o ≡ Equal
-equal_by_test Less e = absurd cc
-equal_by_test Equal e = refl
-equal_by_test Greater e = absurd cc
-
--- whole numbers that are the same by the test are equal
-whole_by_test : (a b : ℤ) → same_whole a b ≡ true → a ≡ b
-whole_by_test (pos m) (pos n) e = ap pos (eqb-true m n e)
-whole_by_test (pos m) (negsuc n) e = absurd cc
-whole_by_test (negsuc m) (pos n) e = absurd cc
-whole_by_test (negsuc m) (negsuc n) e = ap negsuc (eqb-true m n e)
-
--- polynomials that are the same by the test are equal
-same_by_test : (r : RankingValue) (p q : Polynomial Symbol) → same (symbols_under r) p q ≡ true → p ≡ q
-same_by_test r [] [] e = refl
-same_by_test r [] (u ∷ q) e = absurd cc
-same_by_test r (t ∷ p) [] e = absurd cc
-same_by_test r (t ∷ p) (u ∷ q) e =
-    let first = is_equal (monomial_cmp (ranking_cmp r) t.0 u.0) && same_whole t.1 u.1 in
-    let terms : first ≡ true = and_left first _ e in
-    let monomials : t.0 ≡ u.0 = same_monomial (ranking_order r) t.0 u.0 (equal_by_test _ (and_left _ (same_whole t.1 u.1) terms)) in
-    let numbers : t.1 ≡ u.1 = whole_by_test t.1 u.1 (and_right (is_equal (monomial_cmp (ranking_cmp r) t.0 u.0)) _ terms) in
-    ap₂ (λ x y. x ∷ y) (ap₂ (λ m c. (m, c)) monomials numbers) (same_by_test r p q (and_right first _ e))
 
 -- ---- lists of polynomials, by recursion
 -- each polynomial of a list has the property
@@ -124,7 +86,7 @@ module _ (P : Polynomial Symbol → Type 0) where
   member_has : (r : RankingValue) (p : Polynomial Symbol) (qs : Polynomials) → is_member (symbols_under r) p qs ≡ true → AllOf P qs → P p
   member_has r p [] e h = absurd cc
   member_has r p (q ∷ qs) e h =
-      elim (or_parts (same (symbols_under r) p q) (is_member (symbols_under r) p qs) e) [ inl one ↦ subst P (sym (same_by_test r p q one)) h.0 | inr more ↦ member_has r p qs more h.1 ]
+      elim (or_parts (same (symbols_under r) p q) (is_member (symbols_under r) p qs) e) [ inl one ↦ subst P (sym (same_is r p q one)) h.0 | inr more ↦ member_has r p qs more h.1 ]
 
 -- ---- polynomials over a ranking
 -- a polynomial is canonical, and its symbols belong to the signature

@@ -9,7 +9,7 @@ use Rattle.dz_syntax.specs.Names.{Declared}
 use Rattle.dz_syntax.specs.Systems.{Tree, system_of}
 use Rattle.dz_run.specs.declared.ending.Ending.{Ending}
 use Rattle.dz_run.specs.declared.ending.Ending.TheVariants.{Done, Syntax, Wide, Large, NotBuilt}
-use Rattle.dz_run.specs.Document.{ChainTexts, document}
+use Rattle.dz_run.specs.Document.{document}
 use Rattle.dz_run.specs.Root.{Root, chain, closed, root_of, tree_of_root}
 use Rattle.dz_run.specs.declared.system.Refused.{Refused}
 use Rattle.dz_run.specs.declared.system.Refused.TheVariants as refusals

@@ -1,7 +1,6 @@
 -- How a run ends: its status, and its message.
 use Rattle.std.specs.Prelude.{ℕ, List, [], ◌++◌, codes, ⊤}
 use Rattle.std.specs.Fmt.{decimal}
-use Rattle.dz_syntax.specs.declared.fault.SyntaxFault.{SyntaxFault}
 use Rattle.dz_syntax.specs.Faults.{text_of}
 use Rattle.dz_run.specs.declared.ending.Ending.{Ending}
 use Rattle.dz_run.specs.declared.ending.Ending.TheVariants.{Done, Syntax, Wide, Large, ReadFault, WriteFault, WriteStuck, NoMemory, TooLong, NotBuilt}

@@ -1,5 +1,5 @@
 -- What a run leaves of the input, on the output and on the error output.
-use Rattle.std.specs.Prelude.{◌≡◌, ◌↔◌, ◌⊎◌, ◌≤◌, ◌+◌, ℕ, true, false, List, length, Some, None, Result, Ok, Err, ⊤}
+use Rattle.std.specs.Prelude.{◌≡◌, ◌↔◌, ◌⊎◌, ◌≤◌, ◌+◌, ℕ, true, false, List, length, Some, Result, Ok, Err, ⊤}
 use Rattle.std.specs.declared.option.Option.{Option}
 use Rattle.std.specs.Io.KnownBytes.{Appends, Consumes, IsAtEnd, Keeps}
 use Rattle.dz_outside.specs.Causes.{Rose}
@@ -15,7 +15,7 @@ use Rattle.dz_run.specs.Answer.{Answer, answer_to, built, document_of, is_decomp
 use Rattle.dz_run.specs.Root.{Root, RootNonsingular, Solves, SolvesRoot}
 use Rattle.dz_run.specs.System.{System, ranking_of, system_answer}
 use Rattle.dz_run.specs.declared.ending.Ending.{Ending}
-use Rattle.dz_run.specs.declared.ending.Ending.TheVariants.{Done, Syntax, Wide, Large, ReadFault, WriteFault, WriteStuck, NoMemory, TooLong, NotBuilt}
+use Rattle.dz_run.specs.declared.ending.Ending.TheVariants.{ReadFault, WriteFault, WriteStuck, NoMemory, TooLong, NotBuilt}
 
 -- the most bytes of an input
 abbrev pub most_bytes : ℕ

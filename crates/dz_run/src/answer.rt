@@ -62,7 +62,12 @@ fn refused_ending(refused: Refused) -> Ending
 
 /// The tree of one line for a system, which is built with at most one independent.
 #[tactic(auto, unfolding(crate::specs::Answer::built))]
-fn built(alloc: Global, book: &mut Book, tree: &SystemTree, system: &System) -> Result<Option<Tree>, AllocError>
+fn built(
+    alloc: Global,
+    book: &mut Book,
+    tree: &SystemTree,
+    system: &System,
+) -> Result<Option<Tree>, AllocError>
     requires ranking { book.old.ranking ≡ ranking_of (tree_of tree.now) }
     requires lives { LivesSystem book.old system.now }
     ensures lives { IfOk result (λ o. TreeLives book.new o) }
@@ -78,7 +83,12 @@ fn built(alloc: Global, book: &mut Book, tree: &SystemTree, system: &System) -> 
 }
 
 /// The answer for the tree of a root.
-fn built_answer(alloc: Global, names: &Names, book: &Book, tree: Option<Tree>) -> Result<Told, AllocError>
+fn built_answer(
+    alloc: Global,
+    names: &Names,
+    book: &Book,
+    tree: Option<Tree>,
+) -> Result<Told, AllocError>
     requires signature { signature_of names.now ≡ book.now.ranking.signature }
     requires lives { TreeLives book.now tree }
     ensures { IfOk result (λ told. answer_of told ≡ built_answer names.now (tree_in book.now tree)) }

@@ -57,6 +57,12 @@ pub(crate) fn write_message<L: Sink>(err: &mut L, ending: Ending) -> Result<(), 
     let place = buffer.format(fault.place);
     write_pieces(
         err,
-        &[b"blad: syntax: byte ", place.as_bytes(), b": ", fault.kind.text(), b"\n"],
+        &[
+            b"blad: syntax: byte ",
+            place.as_bytes(),
+            b": ",
+            fault.kind.text(),
+            b"\n",
+        ],
     )
 }

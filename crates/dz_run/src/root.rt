@@ -108,12 +108,7 @@ fn is_dropped(book: &Book, group: Group, p: Poly) -> bool
 }
 
 /// Puts the norm of a polynomial behind those that are kept, unless it is left out or stands there.
-fn keep_norm(
-    book: &mut Book,
-    group: Group,
-    p: Poly,
-    kept: &mut Vec<Poly>,
-) -> Result<(), AllocError>
+fn keep_norm(book: &mut Book, group: Group, p: Poly, kept: &mut Vec<Poly>) -> Result<(), AllocError>
     requires lives { Lives book.old p }
     requires all { LiveAll book.old kept.old.items }
     ensures value { OnOk result (MeanAll book.new kept.new.items

@@ -84,7 +84,12 @@ fn expand_numbered(book: &mut Book, group: Group, number: usize, item: &Item) ->
 }
 
 /// The values of the items of a group.
-fn expand_items(alloc: Global, book: &mut Book, group: Group, items: &[Item]) -> Result<Vec<Poly>, Stop>
+fn expand_items(
+    alloc: Global,
+    book: &mut Book,
+    group: Group,
+    items: &[Item],
+) -> Result<Vec<Poly>, Stop>
     requires { All (λ item. IsExpression book.old.ranking.signature item) items.now }
     ensures values { GivesAll (λ ps. ps.items) book.new result (items_answer (symbols_under book.old.ranking) group 0 items.now) }
     ensures kept { OnOk result (IsKept book.old book.new) }

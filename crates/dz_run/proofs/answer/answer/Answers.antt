@@ -1,4 +1,4 @@
-use Rattle.std.proofs.Common.{List, subst, sym, Err, Result}
+use Rattle.std.proofs.Common.{List, subst, sym}
 use Rattle.std.specs.Prelude.{IfErr}
 use Rattle.dz_rank.specs.declared.rankings.Block.{Block}
 use Rattle.dz_rank.specs.Rankings.{IsFaultOf, IsRanking, ranking_value}

@@ -1,4 +1,4 @@
-use Rattle.std.proofs.Common.{◌≡◌, ◌≤◌, map, drop}
+use Rattle.std.proofs.Common.{◌≤◌, map, drop}
 use Rattle.std.specs.List.{concat}
 use Rattle.dz_run.proofs.Pieces.{IsWritten}
 use Rattle.dz_run.proofs.message.write_pieces.Given as goal

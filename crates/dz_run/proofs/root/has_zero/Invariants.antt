@@ -1,5 +1,4 @@
 use Rattle.std.proofs.Common.{◌≡◌, drop}
-use Rattle.dz_poly.specs.Ranked.{symbols_under}
 use Rattle.dz_run.specs.Root.{has_zero}
 use Rattle.dz_run.specs.System.{polynomials}
 use Rattle.dz_run.proofs.root.has_zero.Given as goal

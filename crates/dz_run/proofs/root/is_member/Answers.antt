@@ -1,7 +1,8 @@
 use Rattle.std.proofs.Common.{ap, refl, sym, ◌∙◌}
 use Rattle.std.proofs.lemmas.List.{get_or_read}
 use Rattle.dz_poly.specs.Books.{polynomial}
-use Rattle.dz_run.proofs.Rooting.{member_found, member_not, untrue}
+use Rattle.dz_run.proofs.EqualTests.{untrue}
+use Rattle.dz_run.proofs.Rooting.{member_found, member_not}
 use Rattle.dz_run.proofs.root.is_member.Goals as goal
 
 pub returns-then-same : goal.returns-then-same

@@ -9,6 +9,6 @@ abbrev pub invariant-polys : goal.invariant-polys
 invariant-polys l = record {
   live : LiveAll l.book l.kept.items;
   same : kept_norms (symbols_under l.fn.book.ranking) l.group (polynomials l.book l.kept.items) (polynomials l.fn.book (drop l.p-index l.polys))
-    ≡ kept_norms (symbols_under l.fn.book.ranking) l.group [] (polynomials l.fn.book l.polys);
+      ≡ kept_norms (symbols_under l.fn.book.ranking) l.group [] (polynomials l.fn.book l.polys);
   kept : IsKept l.fn.book l.book;
 }

@@ -1,7 +1,6 @@
-use Rattle.std.proofs.Common.{map, string_bytes, [], List, ℕ, ◌≡◌, Err, length, subst, sym, ap, ◌∙◌, arith, rules}
+use Rattle.std.proofs.Common.{map, string_bytes, [], List, ℕ, ◌≡◌, Err, subst, arith, rules}
 use Rattle.std.proofs.lemmas.Grind.{common_steps}
 use Rattle.std.specs.Io.KnownBytes.{Appends}
-use Rattle.std.proofs.lemmas.List.{nil_from_length}
 use Rattle.dz_run.specs.Answer.{answer_of}
 use Rattle.dz_run.specs.Run.{Input, Output, WritesAnswer}
 use Rattle.dz_run.proofs.Endings.{answer_ends, answered_orderly, cut_ends, nothing_ends, some_bytes}

@@ -8,6 +8,6 @@ abbrev pub invariant-items : goal.invariant-items
 invariant-items l = record {
   live : LiveAll l.book l.polys.items;
   same : behind (polynomials l.book l.polys.items) (items_answer (symbols_under l.fn.book.ranking) l.group l.index (drop l.index l.items))
-    ≡ items_answer (symbols_under l.fn.book.ranking) l.group 0 l.items;
+      ≡ items_answer (symbols_under l.fn.book.ranking) l.group 0 l.items;
   kept : IsKept l.fn.book l.book;
 }
