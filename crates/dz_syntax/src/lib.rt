@@ -14,8 +14,6 @@ mod names;
 mod number;
 mod sections;
 mod system;
-#[cfg(test)]
-mod tests;
 mod token;
 mod values;
 

@@ -1,13 +1,10 @@
-//! The grammar by examples: faults at both edges of each limit, and a tree of each form.
+// The grammar of systems by examples: faults at both edges of each limit, and a tree of each form.
 
-use crate::endings::Form;
-use crate::expression::Op;
-use crate::fault::{SyntaxFault, SyntaxKind};
-use crate::item::{Item, read_item};
-use crate::names::Names;
-use crate::system::{SystemTree, read_system};
 use dz_int::Frac;
 use dz_rank::{Kind, Operator, Symbol};
+use dz_syntax::{
+    Form, Item, Names, Op, SyntaxFault, SyntaxKind, SystemTree, read_item, read_system,
+};
 use std::alloc::{AllocError, Global};
 use std::test::*;
 
