@@ -1,2 +1,3 @@
 pub mod Order
 pub mod Worked
+pub mod Examples
