@@ -4,3 +4,4 @@ pub mod Operators
 pub mod Operations
 pub mod State
 pub mod Root
+pub mod Lists
