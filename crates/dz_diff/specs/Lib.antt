@@ -1,0 +1,7 @@
+pub mod Outcome
+pub mod Tests
+pub mod Operators
+pub mod Operations
+pub mod State
+pub mod Root
+pub mod Lists

@@ -1,0 +1,48 @@
+//! Worked examples of the definitions.
+//!
+//! Each function has an empty body: it does nothing, and its clause is what was computed by hand.
+
+ghost use Rattle.dz_engine.specs.Examples.{
+  RunExamples,
+  ConicExamples,
+  MoveExamples,
+  PairExamples,
+  ModelExamples,
+  MixedExamples,
+};
+
+/// Steps need permission, runs may end at zero, and a full run is cut at its budget.
+#[tactic(auto, using(crate::proofs::ExampleProofs::run_examples))]
+pub fn worked_runs()
+    ensures { RunExamples }
+{}
+
+/// One equation of the second degree: its tree, its chains, and what is wrong with other trees.
+#[tactic(auto, using(crate::proofs::ExampleProofs::conic_examples))]
+pub fn worked_conic()
+    ensures { ConicExamples }
+{}
+
+/// Divisions, factors, weeding, and an operation that does not fit.
+#[tactic(auto, using(crate::proofs::ExampleProofs::move_examples))]
+pub fn worked_moves()
+    ensures { MoveExamples }
+{}
+
+/// Critical pairs, their Delta-polynomials, and the trees with them.
+#[tactic(auto, using(crate::proofs::ExampleProofs::pair_examples))]
+pub fn worked_pairs()
+    ensures { PairExamples }
+{}
+
+/// A model of two species, observed through one of them.
+#[tactic(auto, using(crate::proofs::ExampleProofs::model_examples))]
+pub fn worked_model()
+    ensures { ModelExamples }
+{}
+
+/// The first lines of a tree over two independents.
+#[tactic(auto, using(crate::proofs::ExampleProofs::mixed_examples))]
+pub fn worked_mixture()
+    ensures { MixedExamples }
+{}
