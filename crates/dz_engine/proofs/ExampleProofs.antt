@@ -37,13 +37,14 @@ conic_examples = record {
 -- the other moves and forks
 pub move_examples : MoveExamples
 unfolding norm gcd support fits refusal operation ranking_cmp symbol_rate root_of full_run reduced weeded grown divided_at split_at factored chain_rule evidence_weight reason_holds entered ends_of next_entry
-move_examples = record { divided = refl; weeded = refl; factored = refl; factors = refl; too_wide = refl; is_partial = refl }
+move_examples = record { divided = refl; repeated = refl; weeded = refl; factored = refl; factors = refl; too_wide = refl; is_partial = refl }
 
 -- critical pairs
 pub pair_examples : PairExamples
 unfolding norm gcd polynomial_one support fits refusal operation ranking_cmp symbol_rate root_of full_run reduced weeded grown divided_at split_at factored chain_rule evidence_weight reason_holds entered ends_of next_entry
 pair_examples = record {
   crossed_delta = refl;
+  squared_delta = refl;
   crossed_worked = refl;
   crossed_exact = refl;
   crossed_less = refl;

@@ -150,10 +150,19 @@ wide_system = equations (((one (derived u 0 0), pos (10 ^ 25)) ∷ ([], minus 1)
 abbrev pub product_system : System
 product_system = equations ((((derived u 0 0, 1) ∷ (derived v 0 0, 1) ∷ [], pos 1) ∷ []) ∷ [])
 
+-- u*v = 0, v = 0 and u != 0
+abbrev pub repeating : System
+repeating = record {
+  equations = (((derived u 0 0, 1) ∷ (derived v 0 0, 1) ∷ [], pos 1) ∷ []) ∷ symbol_polynomial (derived v 0 0) ∷ [];
+  inequations = symbol_polynomial (derived u 0 0) ∷ [];
+}
+
 -- the other moves and forks, and an operation that does not fit
 pub record MoveExamples : Type 0 where
   -- u is divided by the inequation u, and 1 is left
   pub divided : worked_lines ordinary 1000000 9 contradiction ≡ act (divide 1 (derived u 0 0)) ∷ closed ∷ []
+  -- u*v is divided by the inequation u, and v is left, which is there already
+  pub repeated : worked_lines algebraic 1000000 9 repeating ≡ act (divide 1 (derived u 0 0)) ∷ chain ∷ []
   -- u[x,x] is weeded to u
   pub weeded : worked_lines ordinary 1000000 9 exponential ≡ act (weed 1 (step 1 1 0 ∷ step 1 0 0 ∷ [])) ∷ chain ∷ []
   -- u*v is factored
@@ -186,6 +195,8 @@ planar_two = setting 2 2 (graded (u ∷ v ∷ []) ∷ [])
 pub record PairExamples : Type 0 where
   -- the Delta-polynomial of u[x] and u[y] - x is 1, and is added
   pub crossed_delta : delta_answer planar (symbol_polynomial (derived u 1 0)) (apart (derived u 0 1) x) ≡ Ok (([], pos 1) ∷ [])
+  -- that of u[x]^2 - y and u[y] - x is 2*u[x] - 1
+  pub squared_delta : delta_answer planar (((derived u 1 0, 2) ∷ [], pos 1) ∷ (one y, minus 1) ∷ []) (apart (derived u 0 1) x) ≡ Ok ((one (derived u 1 0), pos 2) ∷ ([], minus 1) ∷ [])
   pub crossed_worked : worked_lines planar 1000000 9 crossed ≡ act (add 1 2 []) ∷ closed ∷ []
   -- this weighs 2
   pub crossed_exact : worked_lines planar 2 9 crossed ≡ act (add 1 2 []) ∷ closed ∷ []
