@@ -1,0 +1,6 @@
+pub mod Meaning
+pub mod Steps
+pub mod Actions
+pub mod Walks
+pub mod Roots
+pub mod ZeroSetLaws

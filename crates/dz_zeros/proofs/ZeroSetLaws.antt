@@ -1,0 +1,184 @@
+-- The theorem of zero sets, over every domain and at every point that fits.
+use Rattle.std.proofs.Common.{◌≡◌, ◌≢◌, ◌⊎◌, inl, inr, ◌↔◌, ℕ, zero, suc, ◌<◌, Bool, true, false, not, List, [], ◌∷◌, ℤ, pos, negsuc, refl, sym, ap, ◌∙◌, arith, Result, Ok, Err, IsOk}
+use Rattle.dz_algebra.specs.Derivation.{derivative_contributions, polynomial_derivative}
+use Rattle.dz_algebra.specs.Domain.{Operations, DomainLaws}
+use Rattle.dz_algebra.specs.Monomial.{Monomial, MonomialIn}
+use Rattle.dz_algebra.specs.Parts.{has_derivative, is_ground}
+use Rattle.dz_algebra.specs.Polynomial.{Contributions, Polynomial, PolynomialIn}
+use Rattle.dz_algebra.specs.Ring.{Value, same_value, values_arithmetic, ring_of_values, negative_zero, negative_negative}
+use Rattle.dz_algebra.specs.Value.{value, whole_in}
+use Rattle.dz_algebra.proofs.DomainValues.{derivative_of_zero, symbol_at, value_there, value_characteristic, value_divisors, value_of_collected}
+use Rattle.dz_rank.specs.Rankings.{RankingValue, ranking_cmp}
+use Rattle.dz_rank.specs.Symbols.{BelongsTo}
+use Rattle.dz_rank.specs.declared.symbols.Symbol.{Symbol}
+use Rattle.dz_rank.specs.declared.symbols.Symbol.TheVariants.{Independent, Derivative}
+use Rattle.dz_poly.specs.Ranked.{symbol_rate, symbols_under}
+use Rattle.dz_poly.proofs.SymbolLaws.{ranking_order}
+use Rattle.dz_domain.specs.Point.{Coordinates, IsPoint, FitsSignature, symbol_value}
+use Rattle.dz_domain.proofs.Points.{symbol_is_value}
+use Rattle.dz_domain.proofs.PointValues.{ground_value, value_of_derivative}
+use Rattle.dz_diff.specs.Lists.{AllOf, SomeOf}
+use Rattle.dz_diff.specs.Tests.{Polynomials}
+use Rattle.dz_diff.specs.Operations.{setting_of}
+use Rattle.dz_diff.specs.State.{State}
+use Rattle.dz_diff.specs.Root.{System, is_closed}
+use Rattle.dz_diff.proofs.Answers.{both, is_false}
+use Rattle.dz_diff.proofs.Goodness.{Good, InRange}
+use Rattle.dz_step.specs.declared.Role.TheVariants.{Free}
+use Rattle.dz_step.specs.declared.Step.{Step}
+use Rattle.dz_step.specs.Run.{run}
+use Rattle.dz_tree.specs.declared.Rule.{Rule}
+use Rattle.dz_tree.specs.Walk.{Tree, End, ends_of, ends_in}
+use Rattle.dz_zeros.specs.Laws.{ZeroSets}
+use Rattle.dz_zeros.specs.Solves.{AreOver, HasValueZero, IsOver, Solves, SolvesState}
+use Rattle.dz_zeros.proofs.Meaning.{Meaning, Vanishes, Differs}
+use Rattle.dz_zeros.proofs.Steps.{run_alike}
+use Rattle.dz_zeros.proofs.Actions.{GoodState, closed_has_none, good_equations, serves_free}
+use Rattle.dz_zeros.proofs.Roots.{tree_same}
+use Rattle.dz_zeros.proofs.Walks.{SolvedEnd}
+
+-- ---- symbols of a signature
+module _ (r : RankingValue) where
+  symbol_in : (s : Symbol) → BelongsTo r.signature s → InRange r s
+  symbol_in (Independent j) h = h
+  symbol_in (Derivative u t) h = tt
+
+  monomial_in : (n : Monomial Symbol) → MonomialIn (BelongsTo r.signature) n → MonomialIn (InRange r) n
+  monomial_in [] h = tt
+  monomial_in (p ∷ n) h = (symbol_in p.0 h.0, monomial_in n h.1)
+
+  polynomial_in : (p : Polynomial Symbol) → PolynomialIn (BelongsTo r.signature) p → PolynomialIn (InRange r) p
+  polynomial_in [] h = tt
+  polynomial_in (t ∷ p) h = (monomial_in t.0 h.0, polynomial_in p h.1)
+
+  good_over : (p : Polynomial Symbol) → IsOver r p → Good r p
+  good_over p h = (h.canonical, polynomial_in p h.belongs)
+
+  all_good : (ps : Polynomials) → AllOf (IsOver r) ps → AllOf (Good r) ps
+  all_good [] h = tt
+  all_good (p ∷ ps) h = (good_over p h.0, all_good ps h.1)
+
+  independents_belong : (n : Monomial Symbol) → has_derivative (symbols_under r) n ≡ false → MonomialIn (InRange r) n → MonomialIn (BelongsTo r.signature) n
+  independents_belong [] e h = tt
+  independents_belong ((Independent j, k) ∷ n) e h = (h.0, independents_belong n e h.1)
+  independents_belong ((Derivative u t, k) ∷ n) e h = cc
+
+  ground_belongs : (p : Polynomial Symbol) → is_ground (symbols_under r) p ≡ true → PolynomialIn (InRange r) p → PolynomialIn (BelongsTo r.signature) p
+  ground_belongs [] e h = tt
+  ground_belongs (t ∷ p) e h =
+      let b = both (not (has_derivative (symbols_under r) t.0)) (is_ground (symbols_under r) p) e in
+      (independents_belong t.0 (is_false (has_derivative (symbols_under r) t.0) b.0) h.0, ground_belongs p b.1 h.1)
+
+-- ---- points
+module _ (r : RankingValue) {E : Type 0} {o : Operations E} (laws : DomainLaws o) {c : Coordinates E} (point : IsPoint o c) (fits : FitsSignature r.signature c) where
+  -- the value of a symbol, as a value of the domain
+  abbrev at : Symbol → Value o
+  at = symbol_at laws (symbol_value o c) (symbol_is_value laws point)
+
+  decide_zero : (x : Value o) → (x ≡ (ring_of_values laws).zero) ⊎ (x ≢ (ring_of_values laws).zero)
+  decide_zero x =
+      elim (o.is_zero x.0) as (λ b. o.is_zero x.0 ≡ b → (x ≡ (ring_of_values laws).zero) ⊎ (x ≢ (ring_of_values laws).zero)) [
+        | true ↦ λ h. inl (same_value o x (ring_of_values laws).zero ((laws.is_zero_at_zero x.0 x.1).0 h))
+        | false ↦ λ h. inr (λ e. different (o.is_zero x.0) ((laws.is_zero_at_zero x.0 x.1).1 (ap (λ y. y.0) e)) h)
+      ] refl
+    where
+      different : (b : Bool) → b ≡ true → b ≡ false → ⊥
+      different b e f = cc
+
+  whole_not_zero : (k : ℤ) → k ≢ pos 0 → whole_in (values_arithmetic laws) k ≢ (ring_of_values laws).zero
+  whole_not_zero (pos zero) h e = h refl
+  whole_not_zero (pos (suc n)) h e = value_characteristic laws n e
+  whole_not_zero (negsuc n) h e = value_characteristic laws n (sym (negative_negative (ring_of_values laws) _) ∙ ap (values_arithmetic laws).negative e ∙ negative_zero (ring_of_values laws))
+
+  to_point : (a : Contributions Symbol) → value (values_arithmetic laws) at a ≡ (ring_of_values laws).zero → HasValueZero o c a
+  to_point a z = sym (value_there laws (symbol_value o c) (symbol_is_value laws point) a) ∙ ap (λ x. x.0) z
+
+  from_point : (a : Contributions Symbol) → HasValueZero o c a → value (values_arithmetic laws) at a ≡ (ring_of_values laws).zero
+  from_point a z = same_value o _ _ (value_there laws (symbol_value o c) (symbol_is_value laws point) a ∙ z)
+
+  derivatives_vanish : (i : ℕ) (a : Polynomial Symbol) → i < r.signature.independents → value (values_arithmetic laws) at a ≡ (ring_of_values laws).zero
+      → value (values_arithmetic laws) at (derivative_contributions (ranking_cmp r) (symbol_rate i) a) ≡ (ring_of_values laws).zero
+  unfolding polynomial_derivative
+  derivatives_vanish i a h z =
+      from_point (derivative_contributions (ranking_cmp r) (symbol_rate i) a)
+      (sym (value_of_collected laws (symbol_value o c) (symbol_is_value laws point) (ranking_cmp r) (ranking_order r) (derivative_contributions (ranking_cmp r) (symbol_rate i) a))
+      ∙ value_of_derivative r laws point fits i h a
+      ∙ ap (o.derivative i) (to_point a z) ∙ derivative_of_zero laws i (omega (arith, point.enough, fits.independents, h)))
+
+  -- a point gives a meaning
+  meaning_of : Meaning r (Value o)
+  meaning_of = record {
+    ring = ring_of_values laws;
+    at = at;
+    decide = decide_zero;
+    no_divisors = value_divisors laws;
+    whole_nonzero = whole_not_zero;
+    derivative_vanishes = derivatives_vanish;
+    ground_nonzero = λ a canonical inside ground n z. ground_value r laws point fits a canonical (ground_belongs r a ground inside) ground n (to_point a z);
+  }
+
+  all_to : (ps : Polynomials) → AllOf (Vanishes meaning_of) ps → AllOf (HasValueZero o c) ps
+  unfolding meaning_of
+  all_to [] h = tt
+  all_to (a ∷ ps) h = (to_point a h.0, all_to ps h.1)
+
+  all_from : (ps : Polynomials) → AllOf (HasValueZero o c) ps → AllOf (Vanishes meaning_of) ps
+  unfolding meaning_of
+  all_from [] h = tt
+  all_from (a ∷ ps) h = (from_point a h.0, all_from ps h.1)
+
+  none_to : (ps : Polynomials) → AllOf (Differs meaning_of) ps → AllOf (λ a. HasValueZero o c a → ⊥) ps
+  unfolding meaning_of
+  none_to [] h = tt
+  none_to (a ∷ ps) h = ((λ z. h.0 (from_point a z)), none_to ps h.1)
+
+  none_from : (ps : Polynomials) → AllOf (λ a. HasValueZero o c a → ⊥) ps → AllOf (Differs meaning_of) ps
+  unfolding meaning_of
+  none_from [] h = tt
+  none_from (a ∷ ps) h = ((λ z. h.0 (to_point a z)), none_from ps h.1)
+
+  solves_to : (es hs : Polynomials) → AllOf (Vanishes meaning_of) es × AllOf (Differs meaning_of) hs → Solves o c es hs
+  solves_to es hs h = record { equations_vanish = all_to es h.0; inequations_do_not = none_to hs h.1 }
+
+  solves_from : (es hs : Polynomials) → Solves o c es hs → AllOf (Vanishes meaning_of) es × AllOf (Differs meaning_of) hs
+  solves_from es hs h = (all_from es h.equations_vanish, none_from hs h.inequations_do_not)
+
+  some_to : (ends : List End) → SomeOf (SolvedEnd meaning_of) ends → SomeOf (λ e. SolvesState o c e.state) ends
+  some_to [] h = h
+  some_to (e ∷ ends) (inl h) = inl (solves_to e.state.equations e.state.inequations h)
+  some_to (e ∷ ends) (inr h) = inr (some_to ends h)
+
+  some_from : (ends : List End) → SomeOf (λ e. SolvesState o c e.state) ends → SomeOf (SolvedEnd meaning_of) ends
+  some_from [] h = h
+  some_from (e ∷ ends) (inl h) = inl (solves_from e.state.equations e.state.inequations h)
+  some_from (e ∷ ends) (inr h) = inr (some_from ends h)
+
+  tree_solutions : (system : System) (tree : Tree) → AreOver r system.equations system.inequations → IsOk (ends_of (setting_of r) system tree)
+      → Solves o c system.equations system.inequations ↔ SomeOf (λ e. SolvesState o c e.state) (ends_in (ends_of (setting_of r) system tree))
+  tree_solutions system tree over ok = by_answer (ends_of (setting_of r) system tree) refl ok
+    where
+      by_answer : (q : Result (List End) (ℕ × Rule)) → ends_of (setting_of r) system tree ≡ q → IsOk q → Solves o c system.equations system.inequations ↔ SomeOf (λ e. SolvesState o c e.state) (ends_in q)
+      by_answer (Ok ends) e ok =
+          let k = tree_same meaning_of system tree ends e (all_good r system.equations over.equations_over, all_good r system.inequations over.inequations_over) in
+          ((λ h. some_to ends (k.0 (solves_from system.equations system.inequations h))), (λ h. solves_to system.equations system.inequations (k.1 (some_from ends h))))
+      by_answer (Err e) f ok = cc
+
+  closed_solutions : (s : State) → AreOver r s.equations s.inequations → is_closed (symbols_under r) s ≡ true → SolvesState o c s → ⊥
+  closed_solutions s over e h =
+      closed_has_none meaning_of s e (all_good r s.equations over.equations_over, all_good r s.inequations over.inequations_over) (solves_from s.equations s.inequations h)
+
+  run_solutions : (s : State) (f : Polynomial Symbol) (steps : List Step) (count : ℕ) → AreOver r s.equations s.inequations → IsOver r f
+      → run (setting_of r) s Free f steps ≡ Ok (record { end = []; count = count }) → SolvesState o c s → HasValueZero o c f
+  unfolding meaning_of
+  run_solutions s f steps count over of_f e h =
+      let good : GoodState meaning_of s = (all_good r s.equations over.equations_over, all_good r s.inequations over.inequations_over) in
+      let k = run_alike meaning_of s Free f steps (record { end = []; count = count }) e (good_equations meaning_of s good) (good_over r f of_f) in
+      to_point f ((k.0 (serves_free meaning_of s (solves_from s.equations s.inequations h))).0 refl)
+
+-- the three laws
+pub zero_sets : {E : Type 0} (r : RankingValue) (o : Operations E) → DomainLaws o → (c : Coordinates E) → IsPoint o c → FitsSignature r.signature c → ZeroSets r o c
+zero_sets r o laws c point fits = record {
+  of_tree = tree_solutions r laws point fits;
+  of_closed = closed_solutions r laws point fits;
+  of_run = run_solutions r laws point fits;
+}
