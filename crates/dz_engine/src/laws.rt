@@ -9,6 +9,7 @@ ghost use Rattle.dz_engine.specs.Examples.{
   RunExamples,
   ConicExamples,
   MoveExamples,
+  PlaceExamples,
   PairExamples,
   ModelExamples,
   MixedExamples,
@@ -36,6 +37,12 @@ pub fn worked_conic()
 #[tactic(auto, using(crate::proofs::ExampleProofs::move_examples))]
 pub fn worked_moves()
     ensures { MoveExamples }
+{}
+
+/// The root has no repeats, and neither has a state after a move.
+#[tactic(auto, using(crate::proofs::ExampleProofs::place_examples))]
+pub fn worked_places()
+    ensures { PlaceExamples }
 {}
 
 /// Critical pairs, their Delta-polynomials, and the trees with them.
