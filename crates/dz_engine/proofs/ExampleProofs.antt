@@ -12,7 +12,7 @@ use Rattle.dz_tree.specs.Chain.{chain_rule, evidence_weight}
 use Rattle.dz_tree.specs.Reasons.{reason_holds}
 use Rattle.dz_tree.specs.Walk.{entered, ends_of}
 use Rattle.dz_engine.specs.Order.{next_entry}
-use Rattle.dz_engine.specs.Examples.{RunExamples, ConicExamples, MoveExamples, PairExamples, ModelExamples, MixedExamples}
+use Rattle.dz_engine.specs.Examples.{RunExamples, ConicExamples, MoveExamples, PlaceExamples, PairExamples, ModelExamples, MixedExamples}
 
 -- steps and runs
 pub run_examples : RunExamples
@@ -37,14 +37,19 @@ conic_examples = record {
 -- the other moves and forks
 pub move_examples : MoveExamples
 unfolding norm gcd support fits refusal operation ranking_cmp symbol_rate root_of full_run reduced weeded grown divided_at split_at factored chain_rule evidence_weight reason_holds entered ends_of next_entry
-move_examples = record { divided = refl; repeated = refl; weeded = refl; factored = refl; factors = refl; too_wide = refl; is_partial = refl }
+move_examples = record { divided = refl; weeded = refl; factored = refl; factors = refl; too_wide = refl; is_partial = refl }
+
+-- places and roots
+pub place_examples : PlaceExamples
+unfolding norm gcd support fits refusal operation ranking_cmp symbol_rate root_of reduced weeded grown divided_at split_at factored chain_rule evidence_weight reason_holds entered ends_of
+place_examples = record { root = refl; removed = refl; left = refl }
 
 -- critical pairs
 pub pair_examples : PairExamples
 unfolding norm gcd polynomial_one support fits refusal operation ranking_cmp symbol_rate root_of full_run reduced weeded grown divided_at split_at factored chain_rule evidence_weight reason_holds entered ends_of next_entry
 pair_examples = record {
   crossed_delta = refl;
-  squared_delta = refl;
+  curved_delta = refl;
   crossed_worked = refl;
   crossed_exact = refl;
   crossed_less = refl;

@@ -1,1 +1,2 @@
 pub mod ExampleProofs
+pub mod WorkedTrees

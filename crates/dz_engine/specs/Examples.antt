@@ -10,7 +10,7 @@ use Rattle.dz_rank.specs.declared.symbols.Symbol.TheVariants.{Independent, Deriv
 use Rattle.dz_rank.specs.Rankings.{BlockValue}
 use Rattle.dz_diff.specs.Operations.{Setting, setting_of}
 use Rattle.dz_diff.specs.State.{State}
-use Rattle.dz_diff.specs.Root.{System}
+use Rattle.dz_diff.specs.Root.{System, root_of}
 use Rattle.dz_diff.specs.Tests.{Polynomials}
 use Rattle.dz_step.specs.declared.Step.{Step}
 use Rattle.dz_step.specs.declared.Which.TheVariants.{Initial, Separant}
@@ -150,19 +150,10 @@ wide_system = equations (((one (derived u 0 0), pos (10 ^ 25)) ∷ ([], minus 1)
 abbrev pub product_system : System
 product_system = equations ((((derived u 0 0, 1) ∷ (derived v 0 0, 1) ∷ [], pos 1) ∷ []) ∷ [])
 
--- u*v = 0, v = 0 and u != 0
-abbrev pub repeating : System
-repeating = record {
-  equations = (((derived u 0 0, 1) ∷ (derived v 0 0, 1) ∷ [], pos 1) ∷ []) ∷ symbol_polynomial (derived v 0 0) ∷ [];
-  inequations = symbol_polynomial (derived u 0 0) ∷ [];
-}
-
 -- the other moves and forks, and an operation that does not fit
 pub record MoveExamples : Type 0 where
   -- u is divided by the inequation u, and 1 is left
   pub divided : worked_lines ordinary 1000000 9 contradiction ≡ act (divide 1 (derived u 0 0)) ∷ closed ∷ []
-  -- u*v is divided by the inequation u, and v is left, which is there already
-  pub repeated : worked_lines algebraic 1000000 9 repeating ≡ act (divide 1 (derived u 0 0)) ∷ chain ∷ []
   -- u[x,x] is weeded to u
   pub weeded : worked_lines ordinary 1000000 9 exponential ≡ act (weed 1 (step 1 1 0 ∷ step 1 0 0 ∷ [])) ∷ chain ∷ []
   -- u*v is factored
@@ -173,6 +164,33 @@ pub record MoveExamples : Type 0 where
   -- the second step would contribute 10^50
   pub too_wide : worked_lines algebraic 1000000 9 wide_system ≡ open_wide (reduce 2 (step 1 0 0 ∷ step 1 0 0 ∷ [])) ∷ []
   pub is_partial : checked algebraic wide_system 1000000 (open_wide (reduce 2 (step 1 0 0 ∷ step 1 0 0 ∷ [])) ∷ []) ≡ partial
+
+-- ---- places and roots
+-- c*u
+abbrev pub times_u : ℤ → Polynomial Symbol
+times_u c = (one (derived u 0 0), c) ∷ []
+
+-- u + v
+abbrev pub sum_of_both : Polynomial Symbol
+sum_of_both = (one (derived u 0 0), pos 1) ∷ (one (derived v 0 0), pos 1) ∷ []
+
+-- v, u and u + v
+abbrev pub repeating : System
+repeating = equations (symbol_polynomial (derived v 0 0) ∷ symbol_polynomial (derived u 0 0) ∷ sum_of_both ∷ [])
+
+-- u by u + v, which gives v; and then u + v by v
+abbrev pub repeating_lines : List Line
+repeating_lines = act (reduce 2 (step 3 0 0 ∷ [])) ∷ act (reduce 2 (step 1 0 0 ∷ [])) ∷ chain ∷ []
+
+-- the root, and a polynomial that is put at a place
+pub record PlaceExamples : Type 0 where
+  -- 2*u, -3*u and 0 are one equation; of the inequations 7 and v the first is dropped
+  pub root : root_of algebraic.symbols (record { equations = times_u (pos 2) ∷ times_u (minus 3) ∷ [] ∷ []; inequations = (([], pos 7) ∷ []) ∷ symbol_polynomial (derived v 0 0) ∷ [] })
+      ≡ record { equations = times_u (pos 1) ∷ []; inequations = symbol_polynomial (derived v 0 0) ∷ []; splits = 0 }
+  -- v stands at the first place already, so the second is removed
+  pub removed : checked algebraic repeating 1000000 repeating_lines ≡ accepted
+  pub left : chains_of (ends_in (ends_of algebraic repeating (record { budget = 1000000; lines = repeating_lines })))
+      ≡ record { equations = symbol_polynomial (derived v 0 0) ∷ symbol_polynomial (derived u 0 0) ∷ []; inequations = []; splits = 0 } ∷ []
 
 -- ---- critical pairs
 -- the dependent u over x and y
@@ -195,9 +213,9 @@ planar_two = setting 2 2 (graded (u ∷ v ∷ []) ∷ [])
 pub record PairExamples : Type 0 where
   -- the Delta-polynomial of u[x] and u[y] - x is 1, and is added
   pub crossed_delta : delta_answer planar (symbol_polynomial (derived u 1 0)) (apart (derived u 0 1) x) ≡ Ok (([], pos 1) ∷ [])
-  -- that of u[x]^2 - y and u[y] - x is 2*u[x] - 1
-  pub squared_delta : delta_answer planar (((derived u 1 0, 2) ∷ [], pos 1) ∷ (one y, minus 1) ∷ []) (apart (derived u 0 1) x) ≡ Ok ((one (derived u 1 0), pos 2) ∷ ([], minus 1) ∷ [])
   pub crossed_worked : worked_lines planar 1000000 9 crossed ≡ act (add 1 2 []) ∷ closed ∷ []
+  -- that of u[x]^2 - u and u[y] is u[y], by their separants 2*u[x] and 1
+  pub curved_delta : delta_answer planar (((derived u 1 0, 2) ∷ [], pos 1) ∷ (one (derived u 0 0), minus 1) ∷ []) (symbol_polynomial (derived u 0 1)) ≡ Ok (symbol_polynomial (derived u 0 1))
   -- this weighs 2
   pub crossed_exact : worked_lines planar 2 9 crossed ≡ act (add 1 2 []) ∷ closed ∷ []
   pub crossed_less : worked_lines planar 1 9 crossed ≡ spent_pairs ∷ bare_pair 1 2 ∷ []

@@ -1,3 +1,4 @@
 pub mod Order
 pub mod Worked
 pub mod Examples
+pub mod Laws

@@ -1,15 +1,25 @@
-//! Worked examples of the definitions.
+//! The laws of worked trees, and worked examples of the definitions.
 //!
-//! Each function has an empty body: it does nothing, and its clause is what was computed by hand.
+//! Each function has an empty body: it does nothing, and its clause is the law, or what was
+//! computed by hand.
 
+ghost use Rattle.dz_diff.specs.Operations.{Setting};
+ghost use Rattle.dz_engine.specs.Laws.{WorkedLaws};
 ghost use Rattle.dz_engine.specs.Examples.{
   RunExamples,
   ConicExamples,
   MoveExamples,
+  PlaceExamples,
   PairExamples,
   ModelExamples,
   MixedExamples,
 };
+
+/// The order of work leads to at most one tree, and this tree is certified.
+#[tactic(auto, using(crate::proofs::WorkedTrees::worked_laws))]
+pub fn worked_trees_are_certified()
+    ensures { (g : Setting) → WorkedLaws g }
+{}
 
 /// Steps need permission, runs may end at zero, and a full run is cut at its budget.
 #[tactic(auto, using(crate::proofs::ExampleProofs::run_examples))]
@@ -27,6 +37,12 @@ pub fn worked_conic()
 #[tactic(auto, using(crate::proofs::ExampleProofs::move_examples))]
 pub fn worked_moves()
     ensures { MoveExamples }
+{}
+
+/// The root has no repeats, and neither has a state after a move.
+#[tactic(auto, using(crate::proofs::ExampleProofs::place_examples))]
+pub fn worked_places()
+    ensures { PlaceExamples }
 {}
 
 /// Critical pairs, their Delta-polynomials, and the trees with them.

@@ -1,1 +1,2 @@
 pub mod TakenSteps
+pub mod FullRuns

@@ -1,3 +1,4 @@
 pub mod Step
 pub mod Run
 pub mod FullRun
+pub mod Laws

@@ -1,8 +1,10 @@
 //! Steps of Ritt's reduction, runs of them, and full runs.
 //!
-//! So far there are definitions here, in `specs/`, with the data that they speak of, and no
-//! function.
+//! So far there are definitions here, in `specs/`, with the data that they speak of, and the laws
+//! of them in `laws`.
 #![tactic(auto)]
+
+pub mod laws;
 
 use dz_rank::Operator;
 

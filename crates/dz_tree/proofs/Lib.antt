@@ -1,1 +1,4 @@
 pub mod Quotients
+pub mod Certifying
+pub mod Progress
+pub mod LawProofs

@@ -5,3 +5,5 @@ pub mod Chain
 pub mod Lines
 pub mod Reasons
 pub mod Walk
+pub mod Certified
+pub mod Laws

@@ -1,8 +1,10 @@
 //! Decomposition trees: moves, forks, chains with evidence, and when a tree is certified.
 //!
-//! So far there are definitions here, in `specs/`, with the data that they speak of, and no
-//! function.
+//! So far there are definitions here, in `specs/`, with the data that they speak of, and the laws
+//! of them in `laws`.
 #![tactic(auto)]
+
+pub mod laws;
 
 /// A condition on a line of a tree.
 #[derive(Clone, Copy, Debug, PartialEq, Eq, Hash)]

@@ -1,0 +1,13 @@
+//! The laws of trees.
+//!
+//! Each function has an empty body: it does nothing, and its clause is the law.
+
+ghost use Rattle.dz_diff.specs.Operations.{Setting};
+ghost use Rattle.dz_tree.specs.Laws.{TreeLaws};
+
+/// A move leads to one state and a fork to two; and a tree is accepted exactly where each line
+/// holds at its state and its running weight and no end is open.
+#[tactic(auto, using(crate::proofs::LawProofs::tree_laws))]
+pub fn trees_are_judged_by_line()
+    ensures { (g : Setting) → TreeLaws g }
+{}
