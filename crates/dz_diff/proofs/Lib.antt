@@ -2,3 +2,8 @@ pub mod Answers
 pub mod Places
 pub mod SameTests
 pub mod Goodness
+pub mod MarkedSums
+pub mod Degrees
+pub mod LeaderDerivations
+pub mod OperatorLeaders
+pub mod Overs

@@ -5,3 +5,4 @@ pub mod Operations
 pub mod State
 pub mod Root
 pub mod Lists
+pub mod Over

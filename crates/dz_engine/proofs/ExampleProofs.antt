@@ -17,7 +17,7 @@ use Rattle.dz_engine.specs.Examples.{RunExamples, ConicExamples, MoveExamples, P
 -- steps and runs
 pub run_examples : RunExamples
 unfolding norm gcd support fits refusal operation ranking_cmp symbol_rate full_run
-run_examples = record { to_zero = refl; not_permitted = refl; cut = refl }
+run_examples = record { to_zero = refl; not_permitted = refl; cut = refl; least_place = refl }
 
 -- the system u[x]^2 - 4*u
 pub conic_examples : ConicExamples

@@ -17,7 +17,7 @@ use Rattle.dz_step.specs.declared.Which.TheVariants.{Initial, Separant}
 use Rattle.dz_step.specs.declared.Role.TheVariants.{Free}
 use Rattle.dz_step.specs.Step.{no_step}
 use Rattle.dz_step.specs.Run.{run}
-use Rattle.dz_step.specs.FullRun.{passed, full_run}
+use Rattle.dz_step.specs.FullRun.{finished, passed, full_run}
 use Rattle.dz_pair.specs.Pair.{delta_answer, critical_pairs}
 use Rattle.dz_tree.specs.declared.Rule.TheVariants as rules
 use Rattle.dz_tree.specs.Moves.{reduce, weed, add, divide, split, factor}
@@ -101,15 +101,6 @@ conic_state hs = record { equations = conic ∷ []; inequations = hs; splits = 0
 abbrev pub conic_lines : ℕ → List Line
 conic_lines k = act (split 1 Separant) ∷ chain ∷ act (reduce 1 (step 2 0 0 ∷ [])) ∷ act (reduce 2 (step 1 k 0 ∷ [])) ∷ chain ∷ []
 
--- steps and runs
-pub record RunExamples : Type 0 where
-  -- with u[x] as inequation, u[x,x] - 2 goes to zero by the derivative of u[x]^2 - 4*u
-  pub to_zero : run ordinary (conic_state (symbol_polynomial (derived u 1 0) ∷ [])) Free bent (step 1 1 0 ∷ []) ≡ Ok (record { end = []; count = 1 })
-  -- without it the separant is not permitted
-  pub not_permitted : run ordinary (conic_state []) Free bent (step 1 1 0 ∷ []) ≡ Err (1, no_step)
-  -- with the budget 0 the full run is cut at this step
-  pub cut : full_run ordinary (conic_state (symbol_polynomial (derived u 1 0) ∷ [])) Free 0 bent ≡ passed (step 1 1 0 ∷ [])
-
 -- the system u[x]^2 - 4*u
 pub record ConicExamples : Type 0 where
   -- its worked tree
@@ -173,6 +164,18 @@ times_u c = (one (derived u 0 0), c) ∷ []
 -- u + v
 abbrev pub sum_of_both : Polynomial Symbol
 sum_of_both = (one (derived u 0 0), pos 1) ∷ (one (derived v 0 0), pos 1) ∷ []
+
+-- steps and runs
+pub record RunExamples : Type 0 where
+  -- with u[x] as inequation, u[x,x] - 2 goes to zero by the derivative of u[x]^2 - 4*u
+  pub to_zero : run ordinary (conic_state (symbol_polynomial (derived u 1 0) ∷ [])) Free bent (step 1 1 0 ∷ []) ≡ Ok (record { end = []; count = 1 })
+  -- without it the separant is not permitted
+  pub not_permitted : run ordinary (conic_state []) Free bent (step 1 1 0 ∷ []) ≡ Err (1, no_step)
+  -- with the budget 0 the full run is cut at this step
+  pub cut : full_run ordinary (conic_state (symbol_polynomial (derived u 1 0) ∷ [])) Free 0 bent ≡ passed (step 1 1 0 ∷ [])
+  -- of u - v and u + v the first takes u to v
+  pub least_place : full_run algebraic (record { equations = apart (derived u 0 0) (derived v 0 0) ∷ sum_of_both ∷ []; inequations = []; splits = 0 }) Free 9 (symbol_polynomial (derived u 0 0))
+      ≡ finished (step 1 0 0 ∷ []) (symbol_polynomial (derived v 0 0)) 2
 
 -- v, u and u + v
 abbrev pub repeating : System

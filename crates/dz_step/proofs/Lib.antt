@@ -1,2 +1,5 @@
 pub mod TakenSteps
 pub mod FullRuns
+pub mod Lowering
+pub mod StepsLower
+pub mod Falls

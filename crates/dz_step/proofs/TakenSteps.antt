@@ -89,6 +89,7 @@ module _ (r : RankingValue) where
     pub times_is : multiplier_answer (symbols_under r) (multiplier_of st.operator) top divisor ≡ Ok times
     pub allowed : is_allowed (symbols_under r) (usable role s.inequations) times ≡ true
     pub reaches : nat_le (step_degree (symbols_under r) st.operator top divisor) (degree (ranking_cmp r) (derivative_by st.operator top) f) ≡ true
+    pub step_is : step_by (symbols_under r) f derivative times (derivative_by st.operator top) (degree (ranking_cmp r) (derivative_by st.operator top) f) (step_degree (symbols_under r) st.operator top divisor) ≡ Ok x
     pub parts : StepParts f derivative times (derivative_by st.operator top) (degree (ranking_cmp r) (derivative_by st.operator top) f) (step_degree (symbols_under r) st.operator top divisor) x
 
   -- a step that has a result
@@ -120,6 +121,7 @@ module _ (r : RankingValue) where
         times_is = times_is;
         allowed = permitted_multiplier (usable role s.inequations) (multiplier_answer g (multiplier_of t) l q) b4.0 (ap (λ y. is_permitted (setting_of r) s role q y t) (sym same_leader) ∙ a4.0) times_is;
         reaches = b2.0;
+        step_is = told_ok refused (step_by g f b3.0 b4.0 (derivative_by t l) (degree g.cmp (derivative_by t l) f) (step_degree g t l q)) x b4.2;
         parts = step_parts f b3.0 b4.0 (derivative_by t l) (degree g.cmp (derivative_by t l) f) (step_degree g t l q) x (told_ok refused (step_by g f b3.0 b4.0 (derivative_by t l) (degree g.cmp (derivative_by t l) f) (step_degree g t l q)) x b4.2);
       }
 

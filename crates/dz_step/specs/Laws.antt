@@ -1,12 +1,21 @@
 -- The laws of runs; the crate's law functions ask for their proofs.
-use Rattle.std.specs.Prelude.{◌≡◌, ℕ, false, List, Ok}
+use Rattle.std.specs.Prelude.{◌≡◌, ◌≢◌, ◌≤◌, ◌<◌, ℕ, false, List, ◌∷◌, Ok, Some}
+use Rattle.std.specs.declared.cmp.Ordering.TheVariants.{Less}
+use Rattle.dz_algebra.specs.Norm.{norm}
+use Rattle.dz_algebra.specs.Parts.{degree, leader}
 use Rattle.dz_algebra.specs.Polynomial.{Polynomial}
+use Rattle.dz_rank.specs.Rankings.{RankingValue, ranking_cmp}
+use Rattle.dz_rank.specs.Symbols.{IsOperatorOf, derivative_by}
 use Rattle.dz_rank.specs.declared.symbols.Symbol.{Symbol}
-use Rattle.dz_diff.specs.Operations.{Setting}
-use Rattle.dz_diff.specs.State.{State}
+use Rattle.dz_poly.specs.Ranked.{symbols_under}
+use Rattle.dz_diff.specs.Lists.{AllOf}
+use Rattle.dz_diff.specs.Operations.{Setting, setting_of}
+use Rattle.dz_diff.specs.Over.{IsOver}
+use Rattle.dz_diff.specs.State.{State, at_place}
 use Rattle.dz_step.specs.declared.Role.{Role}
 use Rattle.dz_step.specs.declared.Step.{Step}
-use Rattle.dz_step.specs.Run.{run}
+use Rattle.dz_step.specs.Step.{step_in}
+use Rattle.dz_step.specs.Run.{Ran, run}
 use Rattle.dz_step.specs.FullRun.{admits, finished, full_run}
 
 -- a full run that comes to its end is a run with this end and count, and the end admits no step
@@ -15,3 +24,18 @@ pub record FullRunLaws (g : Setting) : Type 0 where
       → full_run g s role budget f ≡ finished steps end count → run g s role f steps ≡ Ok (record { end = end; count = count })
   pub at_rest : (s : State) (role : Role) (budget : ℕ) (f : Polynomial Symbol) (steps : List Step) (end : Polynomial Symbol) (count : ℕ)
       → full_run g s role budget f ≡ finished steps end count → admits g s role end ≡ false
+
+-- the degree in v is less, and that in no greater symbol is more
+abbrev pub IsLower : RankingValue → Symbol → Polynomial Symbol → Polynomial Symbol → Type 0
+IsLower r v f x =
+    (degree (ranking_cmp r) v x < degree (ranking_cmp r) v f)
+    × ((u : Symbol) → ranking_cmp r v u ≡ Less → degree (ranking_cmp r) u x ≤ degree (ranking_cmp r) u f)
+
+-- at a state with equations over a ranking of at most four independents
+pub record ReductionLaws (r : RankingValue) (s : State) : Type 0 where
+  -- a step lowers the degree in the derivative that its operator makes of its divisor's leader, and raises none above
+  pub lowers : (role : Role) (f x q : Polynomial Symbol) (l : Symbol) (st : Step) → IsOver r f → IsOperatorOf r.signature.independents st.operator
+      → at_place st.place s.equations ≡ Some q → leader (symbols_under r) q ≡ Some l → step_in (setting_of r) s role f st ≡ Ok x → IsLower r (derivative_by st.operator l) f x
+  -- a run of one step or more does not end where it began
+  pub never_returns : (role : Role) (f : Polynomial Symbol) (st : Step) (steps : List Step) (x : Ran) → IsOver r f → AllOf (λ (st : Step). IsOperatorOf r.signature.independents st.operator) (st ∷ steps)
+      → run (setting_of r) s role f (st ∷ steps) ≡ Ok x → x.end ≢ norm f

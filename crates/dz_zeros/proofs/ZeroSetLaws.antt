@@ -23,6 +23,8 @@ use Rattle.dz_diff.specs.Operations.{setting_of}
 use Rattle.dz_diff.specs.State.{State}
 use Rattle.dz_diff.specs.Root.{System, is_closed}
 use Rattle.dz_diff.proofs.Answers.{both, is_false}
+use Rattle.dz_diff.specs.Over.{AreOver, IsOver}
+use Rattle.dz_diff.proofs.Overs.{all_good, good_over}
 use Rattle.dz_diff.proofs.Goodness.{Good, InRange}
 use Rattle.dz_step.specs.declared.Role.TheVariants.{Free}
 use Rattle.dz_step.specs.declared.Step.{Step}
@@ -30,7 +32,7 @@ use Rattle.dz_step.specs.Run.{run}
 use Rattle.dz_tree.specs.declared.Rule.{Rule}
 use Rattle.dz_tree.specs.Walk.{Tree, End, ends_of, ends_in}
 use Rattle.dz_zeros.specs.Laws.{ZeroSets}
-use Rattle.dz_zeros.specs.Solves.{AreOver, HasValueZero, IsOver, Solves, SolvesState}
+use Rattle.dz_zeros.specs.Solves.{HasValueZero, Solves, SolvesState}
 use Rattle.dz_zeros.proofs.Meaning.{Meaning, Vanishes, Differs}
 use Rattle.dz_zeros.proofs.Steps.{run_alike}
 use Rattle.dz_zeros.proofs.Actions.{GoodState, closed_has_none, good_equations, serves_free}
@@ -39,25 +41,6 @@ use Rattle.dz_zeros.proofs.Walks.{SolvedEnd}
 
 -- ---- symbols of a signature
 module _ (r : RankingValue) where
-  symbol_in : (s : Symbol) → BelongsTo r.signature s → InRange r s
-  symbol_in (Independent j) h = h
-  symbol_in (Derivative u t) h = tt
-
-  monomial_in : (n : Monomial Symbol) → MonomialIn (BelongsTo r.signature) n → MonomialIn (InRange r) n
-  monomial_in [] h = tt
-  monomial_in (p ∷ n) h = (symbol_in p.0 h.0, monomial_in n h.1)
-
-  polynomial_in : (p : Polynomial Symbol) → PolynomialIn (BelongsTo r.signature) p → PolynomialIn (InRange r) p
-  polynomial_in [] h = tt
-  polynomial_in (t ∷ p) h = (monomial_in t.0 h.0, polynomial_in p h.1)
-
-  good_over : (p : Polynomial Symbol) → IsOver r p → Good r p
-  good_over p h = (h.canonical, polynomial_in p h.belongs)
-
-  all_good : (ps : Polynomials) → AllOf (IsOver r) ps → AllOf (Good r) ps
-  all_good [] h = tt
-  all_good (p ∷ ps) h = (good_over p h.0, all_good ps h.1)
-
   independents_belong : (n : Monomial Symbol) → has_derivative (symbols_under r) n ≡ false → MonomialIn (InRange r) n → MonomialIn (BelongsTo r.signature) n
   independents_belong [] e h = tt
   independents_belong ((Independent j, k) ∷ n) e h = (h.0, independents_belong n e h.1)

@@ -14,7 +14,8 @@ use Rattle.dz_step.specs.declared.Role.TheVariants.{Free}
 use Rattle.dz_step.specs.declared.Step.{Step}
 use Rattle.dz_step.specs.Run.{run}
 use Rattle.dz_tree.specs.Walk.{Tree, ends_of, ends_in}
-use Rattle.dz_zeros.specs.Solves.{AreOver, HasValueZero, IsOver, Solves, SolvesState}
+use Rattle.dz_diff.specs.Over.{AreOver, IsOver}
+use Rattle.dz_zeros.specs.Solves.{HasValueZero, Solves, SolvesState}
 
 -- what holds at a point that fits a ranking's signature
 pub record ZeroSets {E : Type 0} (r : RankingValue) (o : Operations E) (c : Coordinates E) : Type 0 where

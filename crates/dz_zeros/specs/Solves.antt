@@ -1,9 +1,7 @@
 -- What it means that a point solves equations and inequations.
 use Rattle.std.specs.Prelude.{◌≡◌}
 use Rattle.dz_algebra.specs.Domain.{Operations}
-use Rattle.dz_algebra.specs.Polynomial.{Polynomial, IsPolynomial, PolynomialIn}
-use Rattle.dz_rank.specs.Rankings.{RankingValue, ranking_cmp}
-use Rattle.dz_rank.specs.Symbols.{BelongsTo}
+use Rattle.dz_algebra.specs.Polynomial.{Polynomial}
 use Rattle.dz_rank.specs.declared.symbols.Symbol.{Symbol}
 use Rattle.dz_domain.specs.Point.{Coordinates, value_at}
 use Rattle.dz_diff.specs.Lists.{AllOf}
@@ -22,13 +20,3 @@ pub record Solves {E : Type 0} (o : Operations E) (c : Coordinates E) (equations
 -- a point solves a state
 abbrev pub SolvesState : {E : Type 0} → Operations E → Coordinates E → State → Type 0
 SolvesState o c s = Solves o c s.equations s.inequations
-
--- a polynomial is canonical, and its symbols belong to the signature
-pub record IsOver (r : RankingValue) (p : Polynomial Symbol) : Type 0 where
-  pub canonical : IsPolynomial (ranking_cmp r) p
-  pub belongs : PolynomialIn (BelongsTo r.signature) p
-
--- and so are all polynomials of two lists
-pub record AreOver (r : RankingValue) (equations inequations : Polynomials) : Type 0 where
-  pub equations_over : AllOf (IsOver r) equations
-  pub inequations_over : AllOf (IsOver r) inequations
