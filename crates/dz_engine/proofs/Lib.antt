@@ -1,2 +1,6 @@
+pub mod EasyRules
 pub mod ExampleProofs
+pub mod OrderOfWork
+pub mod PairRules
+pub mod RunRules
 pub mod WorkedTrees

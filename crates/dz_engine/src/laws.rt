@@ -3,8 +3,10 @@
 //! Each function has an empty body: it does nothing, and its clause is the law, or what was
 //! computed by hand.
 
+ghost use Rattle.std.specs.Prelude.{ℕ};
+ghost use Rattle.dz_rank.specs.Rankings.{RankingValue};
 ghost use Rattle.dz_diff.specs.Operations.{Setting};
-ghost use Rattle.dz_engine.specs.Laws.{WorkedLaws};
+ghost use Rattle.dz_engine.specs.Laws.{WorkedLaws, OrderLaws};
 ghost use Rattle.dz_engine.specs.Examples.{
   RunExamples,
   ConicExamples,
@@ -19,6 +21,13 @@ ghost use Rattle.dz_engine.specs.Examples.{
 #[tactic(auto, using(crate::proofs::WorkedTrees::worked_laws))]
 pub fn worked_trees_are_certified()
     ensures { (g : Setting) → WorkedLaws g }
+{}
+
+/// The order of work never stands without an answer: at a state that is ready, the line that it
+/// names holds, and where all states that are reached are ready, there is a worked tree.
+#[tactic(auto, using(crate::proofs::OrderOfWork::order_laws))]
+pub fn order_of_work_goes_on()
+    ensures { (r : RankingValue) (budget : ℕ) → OrderLaws r budget }
 {}
 
 /// Steps need permission, runs may end at zero, and a full run is cut at its budget.

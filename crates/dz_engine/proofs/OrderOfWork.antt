@@ -1,0 +1,186 @@
+-- The order of work never stands at a state without a line that holds, and leads to a tree.
+use Rattle.std.specs.Prelude.{⊤, map, MatchResult}
+use Rattle.std.proofs.Common.{◌≡◌, ℕ, suc, ◌+◌, ◌*◌, ◌≤◌, nat_le, Bool, true, false, cond, List, [], ◌∷◌, ◌++◌, length, refl, sym, ap, ◌∙◌, arith, subst, Result, Ok, Err, Option, Some, None, IsOk, inl, inr}
+use Rattle.std.proofs.lemmas.Bool.{leb-true}
+use Rattle.dz_algebra.specs.Order.{IsOrder}
+use Rattle.dz_algebra.specs.Polynomial.{Polynomial}
+use Rattle.dz_rank.specs.Rankings.{RankingValue}
+use Rattle.dz_rank.specs.declared.symbols.Symbol.{Symbol}
+use Rattle.dz_diff.specs.Outcome.{◌>>=◌, needs, numbered, told_as}
+use Rattle.dz_diff.specs.Lists.{AllOf, SomeOf}
+use Rattle.dz_poly.proofs.SymbolLaws.{ranking_order}
+use Rattle.dz_diff.specs.Operations.{Setting, setting_of}
+use Rattle.dz_diff.specs.Over.{IsOver}
+use Rattle.dz_diff.specs.State.{State}
+use Rattle.dz_diff.specs.Root.{System, is_closed, root_of}
+use Rattle.dz_diff.proofs.Answers.{bind_ok, told_ok, then_ok, ok_same}
+use Rattle.dz_step.specs.declared.Role.TheVariants.{Free, Equation, Inequation}
+use Rattle.dz_pair.specs.Pair.{critical_pairs}
+use Rattle.dz_tree.specs.declared.Rule.{Rule}
+use Rattle.dz_tree.specs.declared.Rule.TheVariants as rules
+use Rattle.dz_tree.specs.Moves.{Action, is_fork, Done, perform}
+use Rattle.dz_tree.specs.Chain.{Evidence, chain_rule, evidence_weight, evidence_from, chain_weight}
+use Rattle.dz_tree.specs.Lines.{Line, act, closed, chain, pair, spent, spent_pairs, open_wide, open_separant, open_large, Entry, with_line, grouped, lines_of}
+use Rattle.dz_tree.specs.Reasons.{reason_holds}
+use Rattle.dz_tree.specs.Walk.{Below, ended, nothing_below, told_at_line, entered}
+use Rattle.dz_tree.proofs.Progress.{perform_leads}
+use Rattle.dz_engine.specs.Order.{line_alone, closed_next, divide_next, reduce_next, factor_next, split_next, weed_next, pairs_next, first_of, next_entry}
+use Rattle.dz_engine.specs.Worked.{IsWorkedFrom, IsWorked, worked_from, worked_lines}
+use Rattle.dz_engine.specs.Ready.{IsReady, IsReached, EntryHolds}
+use Rattle.dz_engine.specs.Laws.{OrderLaws}
+use Rattle.dz_engine.proofs.WorkedTrees.{Goes, worked_is_there}
+use Rattle.dz_engine.proofs.EasyRules.{closed_goes, divide_goes, factor_goes, split_goes}
+use Rattle.dz_engine.proofs.RunRules.{reduce_goes, weed_goes}
+use Rattle.dz_engine.proofs.PairRules.{pairs_goes}
+
+-- ---- the line that is next
+first_is : {A : Type 0} (P : A → Type 0) (o : Option A) (os : List (Option A)) (x : A) → ((e : A) → o ≡ Some e → P e) → (o ≡ None → P (first_of os x)) → P (first_of (o ∷ os) x)
+first_is P None os x f k = k refl
+first_is P (Some e) os x f k = f e refl
+
+not_closed : (g : Setting) (s : State) → closed_next g s ≡ None → is_closed g.symbols s ≡ false
+not_closed g s e = by_test (is_closed g.symbols s) e
+  where
+    by_test : (b : Bool) → cond b (Some (line_alone closed)) None ≡ None → b ≡ false
+    by_test true e = cc
+    by_test false e = refl
+
+module _ (g : Setting) (order : IsOrder g.symbols.cmp) (budget w : ℕ) (Fine : Polynomial Symbol → Type 0) (s : State) (ready : IsReady g budget w Fine s) (low : w ≤ budget) where
+  -- the entry that is next holds
+  pub next_holds : EntryHolds g budget w s (next_entry g budget w s)
+  unfolding next_entry
+  next_holds =
+      first_is (EntryHolds g budget w s) (closed_next g s) _ _ (closed_goes g budget w s) (λ c.
+      first_is (EntryHolds g budget w s) (divide_next g budget w s) _ _ (divide_goes g budget w s) (λ d.
+      first_is (EntryHolds g budget w s) (reduce_next g budget w s) _ _ (reduce_goes g order budget w s Fine (λ i. (ready.steps_go (Equation i), ready.never_returns (Equation i))) ready.equations_fine) (λ r.
+      first_is (EntryHolds g budget w s) (factor_next g budget w s) _ _ (factor_goes g budget w s) (λ f.
+      first_is (EntryHolds g budget w s) (split_next g budget w s) _ _ (split_goes g budget w s ready.separants) (λ p.
+      first_is (EntryHolds g budget w s) (weed_next g budget w s) [] (pairs_next g budget s w [] (critical_pairs g.symbols s)) (weed_goes g order budget w s Fine (λ i. (ready.steps_go (Inequation i), ready.never_returns (Inequation i))) ready.inequations_fine) (λ v.
+      pairs_goes g budget w s Fine (ready.steps_go Free) (ready.at_rest (not_closed g s c) d r f p v) low))))))
+
+-- ---- what stands below
+module _ (g : Setting) (budget w : ℕ) (s : State) (FineState : State → Type 0) (kept : (action : Action) (d : Done) → perform g s action ≡ Ok d → AllOf FineState d.after) (low : w ≤ budget) where
+  -- an action leads to few states
+  few_states : (action : Action) (d : Done) → perform g s action ≡ Ok d → length d.after ≤ 2 * d.weight
+  few_states action d e = let k = perform_leads g s action d e in by_fork (is_fork action) k.states k.weight
+    where
+      by_fork : (b : Bool) → length d.after ≡ cond b 2 1 → 1 ≤ d.weight → length d.after ≤ 2 * d.weight
+      by_fork true e l = omega (arith, e, l)
+      by_fork false e l = omega (arith, e, l)
+
+  evidence_low : (k n m : ℕ) (es : List Evidence) → w + n ≤ budget → evidence_from g s (λ n. nat_le (w + n) budget) k n es ≡ Ok m → w + m ≤ budget
+  evidence_low k n m [] l e = let f : n ≡ m = cc in subst (λ x. w + x ≤ budget) f l
+  evidence_low k n m (f ∷ es) l e =
+      let a = bind_ok (numbered k (evidence_weight g s f)) _ m e in
+      let b = then_ok (nat_le (w + (n + a.0)) budget) _ _ m a.2 in
+      evidence_low (suc k) (n + a.0) m es (leb-true (w + (n + a.0)) budget b.0) b.1
+
+  -- the weight is affordable, the states are few, and each is as asked
+  abbrev IsBelow : Below → Type 0
+  IsBelow b = (w + b.weight ≤ budget) × (length b.states ≤ 2 * b.weight) × AllOf FineState b.states
+
+  nothing_is : (b : Bool) (k : ℕ × Rule) (x b' : Below) → IsBelow x → ◌>>=◌ {A = ⊤} {B = Below} {E = ℕ × Rule} (needs b k) (λ _. Ok x) ≡ Ok b' → IsBelow b'
+  nothing_is true k x b' h e = subst IsBelow (ok_same x b' e) h
+  nothing_is false k x b' h e = cc
+
+  open_is : (line : Line) → IsBelow (ended line s 0)
+  open_is line = (omega (arith, low), omega arith, tt)
+
+  below_is : (line : Line) (es : List Evidence) (b : Below) → entered g budget w s line es ≡ Ok b → IsBelow b
+  unfolding entered
+  below_is (act action) es b e =
+      let a = bind_ok (told_as told_at_line (perform g s action)) _ b e in
+      let c = then_ok (nat_le (w + (a.0).weight) budget) _ _ b a.2 in
+      let p = told_ok told_at_line (perform g s action) a.0 a.1 in
+      subst IsBelow (ok_same (record { states = (a.0).after; ends = []; weight = (a.0).weight }) b c.1) (leb-true (w + (a.0).weight) budget c.0, few_states action a.0 p, kept action a.0 p)
+  below_is closed es b e = nothing_is (is_closed g.symbols s) (0, rules.Closed) nothing_below b (omega (arith, low), omega arith, tt) e
+  below_is chain es b e =
+      let a = bind_ok (chain_weight g s (λ n. nat_le (w + n) budget) es) _ b e in
+      let c = bind_ok (numbered 0 (chain_rule g s es)) _ a.0 a.1 in
+      subst IsBelow (ok_same (ended chain s a.0) b a.2) (evidence_low 1 0 a.0 es (omega (arith, low)) c.2, omega arith, tt)
+  below_is (pair x) es b e = cc
+  below_is (spent action) es b e = nothing_is (reason_holds g budget w s (spent action) es) (0, rules.Reason) (ended (spent action) s 0) b (open_is (spent action)) e
+  below_is spent_pairs es b e = nothing_is (reason_holds g budget w s spent_pairs es) (0, rules.Reason) (ended spent_pairs s 0) b (open_is spent_pairs) e
+  below_is (open_wide action) es b e = nothing_is (reason_holds g budget w s (open_wide action) es) (0, rules.Reason) (ended (open_wide action) s 0) b (open_is (open_wide action)) e
+  below_is (open_separant i) es b e = nothing_is (reason_holds g budget w s (open_separant i) es) (0, rules.Reason) (ended (open_separant i) s 0) b (open_is (open_separant i)) e
+  below_is (open_large limit action) es b e = nothing_is (reason_holds g budget w s (open_large limit action) es) (0, rules.Reason) (ended (open_large limit action) s 0) b (open_is (open_large limit action)) e
+
+  pub goes_from : EntryHolds g budget w s (next_entry g budget w s) → Goes g budget FineState w s
+  goes_from h = by_answer (entered g budget w s (next_entry g budget w s).line (next_entry g budget w s).evidence) refl h
+    where
+      by_answer : (q : Result Below (ℕ × Rule)) → entered g budget w s (next_entry g budget w s).line (next_entry g budget w s).evidence ≡ q → IsOk q → Goes g budget FineState w s
+      by_answer (Ok b) e h = let k = below_is (next_entry g budget w s).line (next_entry g budget w s).evidence b e in record { below = b; holds = e; affordable = k.0; fine = k.2; few = k.1 }
+      by_answer (Err r) e h = cc
+
+-- ---- the worked tree
+-- the worked entries are there, where each state is ready and stays so
+pub entries_there : (g : Setting) (order : IsOrder g.symbols.cmp) (budget : ℕ) (Fine : Polynomial Symbol → Type 0) (FineState : State → Type 0)
+    → ((w : ℕ) (s : State) → w ≤ budget → FineState s → IsReady g budget w Fine s)
+    → ((s : State) (action : Action) (d : Done) → FineState s → perform g s action ≡ Ok d → AllOf FineState d.after)
+    → (s : State) → FineState s → IsWorkedFrom g budget 0 (s ∷ []) (worked_from g budget (2 * budget + 1) 0 (s ∷ []))
+entries_there g order budget Fine FineState ready kept s h =
+    worked_is_there g budget FineState (λ w t low k. goes_from g budget w t FineState (λ action d e. kept t action d k e) low (next_holds g order budget w Fine t (ready w t low k) low))
+    (2 * budget + 1) 0 budget (s ∷ []) (omega arith) (omega arith) (h, tt)
+
+-- ---- lines and entries
+-- evidence that follows a line is that of its entry
+evidence_grouped : (es : List Evidence) (lines : List Line) (more : List Entry) → grouped lines ≡ ([], more) → grouped (map pair es ++ lines) ≡ (es, more)
+evidence_grouped [] lines more h = h
+evidence_grouped (e ∷ es) lines more h = ap (with_line (pair e)) (evidence_grouped es lines more h)
+
+module _ (g : Setting) (budget : ℕ) where
+  line_grouped : (w : ℕ) (s : State) (line : Line) (es : List Evidence) (more : List Entry) (b : Below) → entered g budget w s line es ≡ Ok b → with_line line (es, more) ≡ ([], record { line = line; evidence = es } ∷ more)
+  unfolding entered
+  line_grouped w s (act action) es more b e = refl
+  line_grouped w s closed es more b e = refl
+  line_grouped w s chain es more b e = refl
+  line_grouped w s (pair x) es more b e = cc
+  line_grouped w s (spent action) es more b e = refl
+  line_grouped w s spent_pairs es more b e = refl
+  line_grouped w s (open_wide action) es more b e = refl
+  line_grouped w s (open_separant i) es more b e = refl
+  line_grouped w s (open_large limit action) es more b e = refl
+
+  -- worked entries are those of their lines
+  worked_grouped : (w : ℕ) (pending : List State) (es : List Entry) → IsWorkedFrom g budget w pending es → grouped (lines_of es) ≡ ([], es)
+  worked_grouped w [] [] h = refl
+  worked_grouped w [] (e ∷ es) h = absurd h
+  worked_grouped w (s ∷ pending) [] h = absurd h
+  worked_grouped w (s ∷ pending) (e ∷ es) h = by_answer (entered g budget w s e.line e.evidence) refl (λ b. worked_grouped (w + b.weight) (b.states ++ pending) es) h.1
+    where
+      by_answer : (q : Result Below (ℕ × Rule)) → entered g budget w s e.line e.evidence ≡ q → ((b : Below) → IsWorkedFrom g budget (w + b.weight) (b.states ++ pending) es → grouped (lines_of es) ≡ ([], es))
+          → MatchResult q (λ b. IsWorkedFrom g budget (w + b.weight) (b.states ++ pending) es) (λ r. ⊥) → grouped (lines_of (e ∷ es)) ≡ ([], e ∷ es)
+      by_answer (Ok b) f ih h = ap (with_line e.line) (evidence_grouped e.evidence (lines_of es) es (ih b h)) ∙ line_grouped w s e.line e.evidence es b f
+      by_answer (Err r) f ih h = absurd h
+
+-- ---- the states that are reached
+all_of_themselves : {A : Type 0} (xs : List A) → AllOf (λ x. SomeOf (λ y. x ≡ y) xs) xs
+all_of_themselves xs = from_inside xs (λ x h. h)
+  where
+    from_inside : (ys : List _) → ((x : _) → SomeOf (λ y. x ≡ y) ys → SomeOf (λ y. x ≡ y) xs) → AllOf (λ x. SomeOf (λ y. x ≡ y) xs) ys
+    from_inside [] inside = tt
+    from_inside (y ∷ ys) inside = (inside y (inl refl), from_inside ys (λ x h. inside x (inr h)))
+
+all_give : {A : Type 0} (P Q : A → Type 0) → ((x : A) → P x → Q x) → (xs : List A) → AllOf P xs → AllOf Q xs
+all_give P Q give [] h = tt
+all_give P Q give (x ∷ xs) h = (give x h.0, all_give P Q give xs h.1)
+
+-- what an action leads to is reached
+reached_after : (g : Setting) (system : System) (s : State) (action : Action) (d : Done) → IsReached g system s → perform g s action ≡ Ok d → AllOf (IsReached g system) d.after
+reached_after g system s action d h e =
+    all_give (λ t. SomeOf (λ u. t ≡ u) d.after) (IsReached g system) (λ t k. (action ∷ h.0, (s, d, h.1, e, k))) d.after (all_of_themselves d.after)
+
+-- ---- the laws
+-- a worked tree is there, where every state that is reached is ready
+tree_there : (g : Setting) (order : IsOrder g.symbols.cmp) (budget : ℕ) (Fine : Polynomial Symbol → Type 0) (system : System) → ((w : ℕ) (s : State) → w ≤ budget → IsReached g system s → IsReady g budget w Fine s)
+    → IsWorked g system (record { budget = budget; lines = worked_lines g budget (2 * budget + 1) system })
+tree_there g order budget Fine system ready =
+    let h = entries_there g order budget Fine (IsReached g system) ready (λ s action d k e. reached_after g system s action d k e) (root_of g.symbols system) ([], refl) in
+    subst (λ (es : List Entry). IsWorkedFrom g budget 0 (root_of g.symbols system ∷ []) es) (sym (ap (λ (r : List Evidence × List Entry). r.1) (worked_grouped g budget 0 (root_of g.symbols system ∷ []) _ h))) h
+
+-- the laws of the order of work
+pub order_laws : (r : RankingValue) (budget : ℕ) → OrderLaws r budget
+order_laws r budget = record {
+  holds = λ w s low ready. next_holds (setting_of r) (ranking_order r) budget w (IsOver r) s ready low;
+  is_there = tree_there (setting_of r) (ranking_order r) budget (IsOver r);
+}
