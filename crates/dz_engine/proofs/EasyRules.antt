@@ -92,6 +92,7 @@ same_limit limits.Polynomials = refl
 same_limit limits.Node = refl
 same_limit limits.Splits = refl
 
+-- a number is itself
 same_number : (n : ℕ) → (n == n) ≡ true
 same_number n = eq-eqb n n refl
 
@@ -137,6 +138,7 @@ found_from named e n (x ∷ xs) h = elim (or_else_is (named (suc n) x) (first_pl
             no_zero (x ∷ xs) a = cc
         by_place (suc i) y a b = record { place = suc (suc i); member = y; is_there = a; names = ap (λ k. named k y) (omega arith) ∙ b }
 
+-- what the search from the first place on found
 pub found : {A : Type 0} (named : ℕ → A → Option Entry) (e : Entry) (xs : List A) → first_place 1 named xs ≡ Some e → Found named xs e
 found named e xs h =
     let r = found_from named e 0 xs h in
@@ -154,6 +156,7 @@ none_from named n (suc (suc i)) (y ∷ ys) x h k =
     let a = none_parts (named (suc n) y) (first_place (suc (suc n)) named ys) h in
     ap (λ i. named i x) (omega arith) ∙ none_from named (suc n) (suc i) ys x a.1 k
 
+-- where nothing is found, nothing is named at any place
 pub none_at : {A : Type 0} (named : ℕ → A → Option Entry) (i : ℕ) (xs : List A) (x : A) → first_place 1 named xs ≡ None → at_place i xs ≡ Some x → named i x ≡ None
 none_at named i xs x h k = ap (λ i. named i x) (omega arith) ∙ none_from named 0 i xs x h k
 
@@ -168,6 +171,7 @@ symbol_passes test P (u ∷ vs) v e h = by_test (test u) refl e (λ e. symbol_pa
 
 -- ---- the derivatives of a polynomial are derivatives, and pass what all its symbols pass
 module _ (g : Symbols Symbol) (P : Symbol → Type 0) where
+  -- a list with one more symbol
   inserted : (s : Symbol) (ss : List Symbol) → P s → AllOf P ss → AllOf P (with_symbol g.cmp s ss)
   inserted s [] h k = (h, tt)
   inserted s (t ∷ ts) h k = elim (g.cmp s t) as (λ o. AllOf P (match_ordering o (t ∷ with_symbol g.cmp s ts) (t ∷ ts) (s ∷ t ∷ ts))) [
@@ -176,6 +180,7 @@ module _ (g : Symbols Symbol) (P : Symbol → Type 0) where
     | Greater ↦ (h, k)
   ]
 
+  -- a list with the derivatives of a monomial
   in_monomial : (Q : Symbol → Type 0) → ((s : Symbol) → Q s → g.is_derivative s ≡ true → P s) → (m : Monomial Symbol) (ss : List Symbol) → MonomialIn Q m → AllOf P ss → AllOf P (with_derivatives g m ss)
   in_monomial Q give [] ss h k = k
   in_monomial Q give (p ∷ m) ss h k = by_test (g.is_derivative p.0) refl (in_monomial Q give m ss h.1 k)
@@ -189,6 +194,7 @@ module _ (g : Symbols Symbol) (P : Symbol → Type 0) where
   in_derivatives Q give [] h = tt
   in_derivatives Q give (t ∷ p) h = in_monomial Q give t.0 (derivatives_of g p) h.0 (in_derivatives Q give p h.1)
 
+-- nothing is asked of symbols
 any_monomial : (m : Monomial Symbol) → MonomialIn (λ _. ⊤) m
 any_monomial [] = tt
 any_monomial (p ∷ m) = (tt, any_monomial m)
@@ -201,6 +207,7 @@ any_symbols (t ∷ p) = (any_monomial t.0, any_symbols p)
 pub are_derivatives : (g : Symbols Symbol) (p : Polynomial Symbol) → AllOf (λ v. g.is_derivative v ≡ true) (derivatives_of g p)
 are_derivatives g p = in_derivatives g (λ v. g.is_derivative v ≡ true) (λ _. ⊤) (λ s h e. e) p (any_symbols p)
 
+-- nothing is asked of members
 any_of : (vs : List Symbol) → AllOf (λ _. ⊤) vs
 any_of [] = tt
 any_of (v ∷ vs) = (tt, any_of vs)
@@ -215,6 +222,7 @@ module _ (g : Setting) (budget w : ℕ) (s : State) where
       holds_needs (refused_after (length (steps_of action)) (is_large_by limit) (perform g s action)) _ rules.Reason (ap (refused_after (length (steps_of action)) (is_large_by limit)) e ∙ and_is _ _ (same_number (length (steps_of action))) (same_limit limit))
   open_holds action (rule r) e h = absurd h
 
+  -- the line of an action that is refused
   plain_refused : (action : Action) (e : ℕ × Fault) → perform g s action ≡ Err e → line_alone (open_line e.1 action) ≡ plain g budget w s action
   plain_refused action e i = sym (ap (λ q. elim q as (λ _. Entry) [ Ok d ↦ line_alone (cond (nat_le (w + d.weight) budget) (act action) (spent action)) | Err e ↦ line_alone (open_line e.1 action) ]) i)
 
@@ -229,6 +237,7 @@ module _ (g : Setting) (budget w : ℕ) (s : State) where
           subst (EntryHolds g budget w s) (plain_refused action e i) (open_holds action e.1 j h.1)
 
   -- ---- closed
+  -- the line of a closed state holds
   pub closed_goes : (e : Entry) → closed_next g s ≡ Some e → EntryHolds g budget w s e
   unfolding entered
   closed_goes e h = by_test (is_closed g.symbols s) refl h
@@ -238,10 +247,12 @@ module _ (g : Setting) (budget w : ℕ) (s : State) where
       by_test false i h = cc
 
   -- ---- divide
+  -- a division that may be made
   divide_answers : (i : ℕ) (v : Symbol) (p : Polynomial Symbol) → at_place i s.equations ≡ Some p → (is_divided g.symbols.cmp v p && is_member g.symbols (symbol_polynomial v) s.inequations) ≡ true → Answers 0 (perform g s (divide i v))
   unfolding divided_at
   divide_answers i v p e h = answers_given 0 (at_place i s.equations) _ _ p e (answers_needs 0 (is_divided g.symbols.cmp v p && is_member g.symbols (symbol_polynomial v) s.inequations) _ _ h (answers_settled 0 (with_equations s (put_equation g.symbols i (quotient_by g.symbols.cmp v p) s.equations) ∷ []) (1 + length (quotient_by g.symbols.cmp v p))))
 
+  -- the line of the rule that divides holds
   pub divide_goes : (e : Entry) → divide_next g budget w s ≡ Some e → EntryHolds g budget w s e
   divide_goes e h = let r = found _ e s.equations h in by_symbol r.place r.member r.is_there (first_symbol (λ v. is_member g.symbols (symbol_polynomial v) s.inequations && is_divided g.symbols.cmp v r.member) (symbols_of g.symbols r.member)) refl r.names
     where
@@ -255,11 +266,13 @@ module _ (g : Setting) (budget w : ℕ) (s : State) where
           subst (EntryHolds g budget w s) k (plain_goes (divide i v) (divide_answers i v p a (and_is _ _ b.1 b.0)))
 
   -- ---- factor
+  -- a factor that may be taken out
   factor_answers : (i : ℕ) (v : Symbol) (p : Polynomial Symbol) → at_place i s.equations ≡ Some p → (g.symbols.is_derivative v && is_divided g.symbols.cmp v p && not (same g.symbols p (symbol_polynomial v)) && not (is_member g.symbols (symbol_polynomial v) s.inequations)) ≡ true → Answers 0 (perform g s (factor i v))
   unfolding factored
   factor_answers i v p e h = answers_given 0 (at_place i s.equations) _ _ p e (answers_needs 0 (g.symbols.is_derivative v && is_divided g.symbols.cmp v p && not (same g.symbols p (symbol_polynomial v)) && not (is_member g.symbols (symbol_polynomial v) s.inequations)) _ _ h
       (answers_settled 0 (forked s (put_equation g.symbols i (quotient_by g.symbols.cmp v p) s.equations) (s.inequations ++ symbol_polynomial v ∷ []) ∷ forked s (put_equation g.symbols i (symbol_polynomial v) s.equations) s.inequations ∷ []) (1 + length (quotient_by g.symbols.cmp v p))))
 
+  -- the line of the rule that factors holds
   pub factor_goes : (e : Entry) → factor_next g budget w s ≡ Some e → EntryHolds g budget w s e
   factor_goes e h = let r = found _ e s.equations h in by_symbol r.place r.member r.is_there (first_symbol (λ v. is_divided g.symbols.cmp v r.member && not (same g.symbols r.member (symbol_polynomial v)) && not (is_member g.symbols (symbol_polynomial v) s.inequations)) (derivatives_of g.symbols r.member)) refl r.names
     where
@@ -274,11 +287,13 @@ module _ (g : Setting) (budget w : ℕ) (s : State) where
           subst (EntryHolds g budget w s) k (plain_goes (factor i v) (factor_answers i v p a (and_is _ _ (and_is _ _ (and_is _ _ t.1 c.0) c.1) b.1)))
 
   -- ---- split
+  -- an equation whose separant does not fit
   open_separant_holds : (i : ℕ) (p : Polynomial Symbol) (l : Symbol) → at_place i s.equations ≡ Some p → leader g.symbols p ≡ Some l → separant_answer g.symbols l p ≡ Err wide → EntryHolds g budget w s (line_alone (open_separant i))
   unfolding entered reason_holds
   open_separant_holds i p l a e h = holds_needs (passes (separant_refused g.symbols) (at_place i s.equations)) _ rules.Reason
       (ap (passes (separant_refused g.symbols)) a ∙ ap (passes (λ l. refused_after 0 is_wide (numbered 0 (told_as refusal (separant_answer g.symbols l p))))) e ∙ ap (λ q. refused_after 0 is_wide (numbered 0 (told_as refusal q))) h)
 
+  -- a split on a multiplier that may be split on
   split_answers : (i : ℕ) (which : Which) (p m : Polynomial Symbol) (l : Symbol) → at_place i s.equations ≡ Some p → leader g.symbols p ≡ Some l → multiplier_answer g.symbols which l p ≡ Ok m
       → (not (is_ground g.symbols m) && not (is_member g.symbols (norm m) s.equations) && not (is_member g.symbols (norm m) s.inequations)) ≡ true → Answers 0 (perform g s (split i which))
   unfolding split_at
@@ -287,6 +302,7 @@ module _ (g : Setting) (budget w : ℕ) (s : State) where
       (answers_needs 0 (not (is_ground g.symbols m) && not (is_member g.symbols (norm m) s.equations) && not (is_member g.symbols (norm m) s.inequations)) _ _ h
       (answers_settled 0 (forked s s.equations (s.inequations ++ norm m ∷ []) ∷ forked s (s.equations ++ norm m ∷ []) s.inequations ∷ []) (1 + length (norm m))))))
 
+  -- the line of a split on one multiplier holds
   split_on_goes : (e : Entry) (i : ℕ) (which : Which) (p : Polynomial Symbol) (l : Symbol) → at_place i s.equations ≡ Some p → leader g.symbols p ≡ Some l → ((r : Refusal) → multiplier_answer g.symbols which l p ≡ Err r → separant_answer g.symbols l p ≡ Err wide)
       → split_on g budget w s i which (multiplier_answer g.symbols which l p) ≡ Some e → EntryHolds g budget w s e
   split_on_goes e i which p l a b refuse h = by_answer (multiplier_answer g.symbols which l p) refl h
@@ -304,6 +320,7 @@ module _ (g : Setting) (budget w : ℕ) (s : State) where
       by_answer (Err r) k h = let same : line_alone (open_separant i) ≡ e = cc in subst (EntryHolds g budget w s) same (open_separant_holds i p l a b (refuse r k))
       by_answer (Ok m) k h = by_test m k (is_ground g.symbols m) (is_member g.symbols (norm m) s.equations) (is_member g.symbols (norm m) s.inequations) refl refl refl h
 
+  -- the line of the rule that splits holds
   pub split_goes : SeparantsAreWide g s → (e : Entry) → split_next g budget w s ≡ Some e → EntryHolds g budget w s e
   split_goes wides e h = let r = found _ e s.equations h in by_leader r.place r.member r.is_there (leader g.symbols r.member) refl r.names
     where

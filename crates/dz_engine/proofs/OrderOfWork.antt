@@ -34,10 +34,12 @@ use Rattle.dz_engine.proofs.RunRules.{reduce_goes, weed_goes}
 use Rattle.dz_engine.proofs.PairRules.{pairs_goes}
 
 -- ---- the line that is next
+-- the first that there is, or else the rest
 first_is : {A : Type 0} (P : A → Type 0) (o : Option A) (os : List (Option A)) (x : A) → ((e : A) → o ≡ Some e → P e) → (o ≡ None → P (first_of os x)) → P (first_of (o ∷ os) x)
 first_is P None os x f k = k refl
 first_is P (Some e) os x f k = f e refl
 
+-- where nothing is closed
 not_closed : (g : Setting) (s : State) → closed_next g s ≡ None → is_closed g.symbols s ≡ false
 not_closed g s e = by_test (is_closed g.symbols s) e
   where
@@ -68,6 +70,7 @@ module _ (g : Setting) (budget w : ℕ) (s : State) (FineState : State → Type 
       by_fork true e l = omega (arith, e, l)
       by_fork false e l = omega (arith, e, l)
 
+  -- the weight of evidence is affordable
   evidence_low : (k n m : ℕ) (es : List Evidence) → w + n ≤ budget → evidence_from g s (λ n. nat_le (w + n) budget) k n es ≡ Ok m → w + m ≤ budget
   evidence_low k n m [] l e = let f : n ≡ m = cc in subst (λ x. w + x ≤ budget) f l
   evidence_low k n m (f ∷ es) l e =
@@ -79,13 +82,16 @@ module _ (g : Setting) (budget w : ℕ) (s : State) (FineState : State → Type 
   abbrev IsBelow : Below → Type 0
   IsBelow b = (w + b.weight ≤ budget) × (length b.states ≤ 2 * b.weight) × AllOf FineState b.states
 
+  -- what stands below an end
   nothing_is : (b : Bool) (k : ℕ × Rule) (x b' : Below) → IsBelow x → ◌>>=◌ {A = ⊤} {B = Below} {E = ℕ × Rule} (needs b k) (λ _. Ok x) ≡ Ok b' → IsBelow b'
   nothing_is true k x b' h e = subst IsBelow (ok_same x b' e) h
   nothing_is false k x b' h e = cc
 
+  -- what stands below an open end
   open_is : (line : Line) → IsBelow (ended line s 0)
   open_is line = (omega (arith, low), omega arith, tt)
 
+  -- what stands below an entry that holds
   below_is : (line : Line) (es : List Evidence) (b : Below) → entered g budget w s line es ≡ Ok b → IsBelow b
   unfolding entered
   below_is (act action) es b e =
@@ -105,6 +111,7 @@ module _ (g : Setting) (budget w : ℕ) (s : State) (FineState : State → Type 
   below_is (open_separant i) es b e = nothing_is (reason_holds g budget w s (open_separant i) es) (0, rules.Reason) (ended (open_separant i) s 0) b (open_is (open_separant i)) e
   below_is (open_large limit action) es b e = nothing_is (reason_holds g budget w s (open_large limit action) es) (0, rules.Reason) (ended (open_large limit action) s 0) b (open_is (open_large limit action)) e
 
+  -- so the order of work goes on
   pub goes_from : EntryHolds g budget w s (next_entry g budget w s) → Goes g budget FineState w s
   goes_from h = by_answer (entered g budget w s (next_entry g budget w s).line (next_entry g budget w s).evidence) refl h
     where
@@ -129,6 +136,7 @@ evidence_grouped [] lines more h = h
 evidence_grouped (e ∷ es) lines more h = ap (with_line (pair e)) (evidence_grouped es lines more h)
 
 module _ (g : Setting) (budget : ℕ) where
+  -- a line that holds is not evidence
   line_grouped : (w : ℕ) (s : State) (line : Line) (es : List Evidence) (more : List Entry) (b : Below) → entered g budget w s line es ≡ Ok b → with_line line (es, more) ≡ ([], record { line = line; evidence = es } ∷ more)
   unfolding entered
   line_grouped w s (act action) es more b e = refl
@@ -154,6 +162,7 @@ module _ (g : Setting) (budget : ℕ) where
       by_answer (Err r) f ih h = absurd h
 
 -- ---- the states that are reached
+-- each member is one of the list
 all_of_themselves : {A : Type 0} (xs : List A) → AllOf (λ x. SomeOf (λ y. x ≡ y) xs) xs
 all_of_themselves xs = from_inside xs (λ x h. h)
   where
@@ -161,6 +170,7 @@ all_of_themselves xs = from_inside xs (λ x h. h)
     from_inside [] inside = tt
     from_inside (y ∷ ys) inside = (inside y (inl refl), from_inside ys (λ x h. inside x (inr h)))
 
+-- what follows for each member
 all_give : {A : Type 0} (P Q : A → Type 0) → ((x : A) → P x → Q x) → (xs : List A) → AllOf P xs → AllOf Q xs
 all_give P Q give [] h = tt
 all_give P Q give (x ∷ xs) h = (give x h.0, all_give P Q give xs h.1)

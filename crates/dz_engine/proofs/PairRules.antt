@@ -36,36 +36,45 @@ use Rattle.dz_engine.proofs.EasyRules.{and_is, needs_is, given_is, holds_needs, 
 use Rattle.dz_engine.proofs.RunRules.{full_run_stopped, full_run_passed, full_run_low, is_not}
 
 -- ---- critical pairs rise
+-- a pair of places is before another
 abbrev before : ℕ × ℕ → ℕ × ℕ → Bool
 before p q = nat_lt p.0 q.0 || ((p.0 == q.0) && nat_lt p.1 q.1)
 
+-- each is before all that follow
 abbrev Sorted : List (ℕ × ℕ) → Type 0
 Sorted [] = ⊤
 Sorted (p ∷ ps) = AllOf (λ q. before p q ≡ true) ps × Sorted ps
 
+-- what follows for each member
 all_give : {A : Type 0} (P Q : A → Type 0) → ((x : A) → P x → Q x) → (xs : List A) → AllOf P xs → AllOf Q xs
 all_give P Q give [] h = tt
 all_give P Q give (x ∷ xs) h = (give x h.0, all_give P Q give xs h.1)
 
+-- two lists, the first before the second
 sorted-append : (xs ys : List (ℕ × ℕ)) → Sorted xs → Sorted ys → AllOf (λ x. AllOf (λ y. before x y ≡ true) ys) xs → Sorted (xs ++ ys)
 sorted-append [] ys h k l = k
 sorted-append (x ∷ xs) ys h k l = (all-append (λ q. before x q ≡ true) xs ys h.0 l.0, sorted-append xs ys h.1 k l.1)
 
+-- one part makes a disjunction
 or_left : (a b : Bool) → a ≡ true → (a || b) ≡ true
 or_left true b e = refl
 or_left false b e = cc
 
+-- the other part makes it too
 or_right : (a b : Bool) → b ≡ true → (a || b) ≡ true
 or_right true b e = refl
 or_right false b e = e
 
+-- before by the first place
 before_first : (p q : ℕ × ℕ) → p.0 < q.0 → before p q ≡ true
 before_first p q h = or_left _ _ (lt-ltb p.0 q.0 h)
 
+-- before by the second place
 before_second : (p q : ℕ × ℕ) → p.0 ≡ q.0 → p.1 < q.1 → before p q ≡ true
 before_second p q e h = or_right (nat_lt p.0 q.0) _ (and_is _ _ (eq-eqb p.0 q.0 e) (lt-ltb p.1 q.1 h))
 
 module _ (g : Symbols Symbol) where
+  -- the pairs of one equation have its place first, and greater ones second
   with_all : (i j : ℕ) (p : Polynomial Symbol) (qs : List (Polynomial Symbol)) → AllOf (λ (x : ℕ × ℕ). (x.0 ≡ i) × (j ≤ x.1)) (pairs_with g i j p qs)
   with_all i j p [] = tt
   with_all i j p (q ∷ qs) = by_test (is_pair g p q) (all_give (λ (x : ℕ × ℕ). (x.0 ≡ i) × (suc j ≤ x.1)) (λ (x : ℕ × ℕ). (x.0 ≡ i) × (j ≤ x.1)) (λ x h. (h.0, omega (arith, h.1))) (pairs_with g i (suc j) p qs) (with_all i (suc j) p qs))
@@ -74,6 +83,7 @@ module _ (g : Symbols Symbol) where
       by_test true h = ((refl, omega arith), h)
       by_test false h = h
 
+  -- and they are in their order
   with_sorted : (i j : ℕ) (p : Polynomial Symbol) (qs : List (Polynomial Symbol)) → Sorted (pairs_with g i j p qs)
   with_sorted i j p [] = tt
   with_sorted i j p (q ∷ qs) = by_test (is_pair g p q) (with_sorted i (suc j) p qs)
@@ -82,12 +92,14 @@ module _ (g : Symbols Symbol) where
       by_test true h = (all_give (λ (x : ℕ × ℕ). (x.0 ≡ i) × (suc j ≤ x.1)) (λ x. before (i, j) x ≡ true) (λ x h. before_second (i, j) x (sym h.0) h.1) (pairs_with g i (suc j) p qs) (with_all i (suc j) p qs), h)
       by_test false h = h
 
+  -- the pairs from a place on have no smaller one first
   from_all : (i : ℕ) (ps : List (Polynomial Symbol)) → AllOf (λ (x : ℕ × ℕ). i ≤ x.0) (pairs_from g i ps)
   from_all i [] = tt
   from_all i (p ∷ ps) = all-append (λ (x : ℕ × ℕ). i ≤ x.0) (pairs_with g i (suc i) p ps) (pairs_from g (suc i) ps)
       (all_give (λ (x : ℕ × ℕ). (x.0 ≡ i) × (suc i ≤ x.1)) (λ (x : ℕ × ℕ). i ≤ x.0) (λ x h. omega (arith, h.0)) (pairs_with g i (suc i) p ps) (with_all i (suc i) p ps))
       (all_give (λ (x : ℕ × ℕ). suc i ≤ x.0) (λ (x : ℕ × ℕ). i ≤ x.0) (λ x h. omega (arith, h)) (pairs_from g (suc i) ps) (from_all (suc i) ps))
 
+  -- and they are in their order
   from_sorted : (i : ℕ) (ps : List (Polynomial Symbol)) → Sorted (pairs_from g i ps)
   from_sorted i [] = tt
   from_sorted i (p ∷ ps) = sorted-append (pairs_with g i (suc i) p ps) (pairs_from g (suc i) ps) (with_sorted i (suc i) p ps) (from_sorted (suc i) ps)
@@ -96,6 +108,7 @@ module _ (g : Symbols Symbol) where
 
   -- ---- and name equations
   module _ (es : List (Polynomial Symbol)) where
+    -- two places, the first less, whose equations are a critical pair
     pub record NamesPair (x : ℕ × ℕ) : Type 0 where
       pub first : Polynomial Symbol
       pub second : Polynomial Symbol
@@ -104,6 +117,7 @@ module _ (g : Symbols Symbol) where
       pub second_is : at_place x.1 es ≡ Some second
       pub is_one : is_pair g first second ≡ true
 
+    -- the pairs of one equation are such
     with_names : (i j : ℕ) (p : Polynomial Symbol) (qs : List (Polynomial Symbol)) → i < j → at_place i es ≡ Some p → ((k : ℕ) (x : Polynomial Symbol) → at_place (suc k) qs ≡ Some x → at_place (j + k) es ≡ Some x) → AllOf NamesPair (pairs_with g i j p qs)
     with_names i j p [] l a inside = tt
     with_names i j p (q ∷ qs) l a inside = by_test (is_pair g p q) refl (with_names i (suc j) p qs (omega (arith, l)) a (λ k x h. ap (λ n. at_place n es) (omega arith) ∙ inside (suc k) x h))
@@ -112,33 +126,40 @@ module _ (g : Symbols Symbol) where
         by_test true e h = (record { first = p; second = q; rises = lt-ltb i j l; first_is = a; second_is = ap (λ n. at_place n es) (omega arith) ∙ inside 0 q refl; is_one = e }, h)
         by_test false e h = h
 
+    -- and so are those from a place on
     from_names : (i : ℕ) (ps : List (Polynomial Symbol)) → ((k : ℕ) (x : Polynomial Symbol) → at_place (suc k) ps ≡ Some x → at_place (i + k) es ≡ Some x) → AllOf NamesPair (pairs_from g i ps)
     from_names i [] inside = tt
     from_names i (p ∷ ps) inside =
         let more : (k : ℕ) (x : Polynomial Symbol) → at_place (suc k) ps ≡ Some x → at_place (suc i + k) es ≡ Some x = λ k x h. ap (λ n. at_place n es) (omega arith) ∙ inside (suc k) x h in
         all-append NamesPair (pairs_with g i (suc i) p ps) (pairs_from g (suc i) ps) (with_names i (suc i) p ps (omega arith) (ap (λ n. at_place n es) (omega arith) ∙ inside 0 p refl) more) (from_names (suc i) ps more)
 
+  -- the critical pairs are in their order
   pub critical_pairs_sorted : (s : State) → Sorted (critical_pairs g s)
   critical_pairs_sorted s = from_sorted 1 s.equations
 
+  -- and they are critical pairs of equations
   pub critical_pairs_name : (s : State) → AllOf (NamesPair s.equations) (critical_pairs g s)
   critical_pairs_name s = from_names s.equations 1 s.equations (λ k x h. ap (λ n. at_place n s.equations) (omega arith) ∙ h)
 
 -- ---- evidence
+-- the places of evidence, and of one more
 places-append : (es : List Evidence) (e : Evidence) (ps : List (ℕ × ℕ)) → places_of (es ++ e ∷ []) ++ ps ≡ places_of es ++ ((e.first, e.second) ∷ ps)
 places-append [] e ps = refl
 places-append (f ∷ es) e ps = ap (λ (xs : List (ℕ × ℕ)). (f.first, f.second) ∷ xs) (places-append es e ps)
 
+-- evidence for pairs in their order is increasing
 increasing_is : (es : List Evidence) (ps : List (ℕ × ℕ)) → Sorted (places_of es ++ ps) → is_increasing es ≡ true
 increasing_is [] ps h = refl
 increasing_is (e ∷ []) ps h = refl
 increasing_is (e ∷ f ∷ es) ps h = and_is _ _ h.0.0 (increasing_is (f ∷ es) ps h.1)
 
+-- there is evidence
 some_is : (es : List Evidence) (e : Evidence) → not (is_empty (es ++ e ∷ [])) ≡ true
 some_is [] e = refl
 some_is (f ∷ es) e = refl
 
 module _ (g : Setting) (s : State) where
+  -- the weight with one more run of a chain
   evidence-append : (affordable : ℕ → Bool) (k n m x : ℕ) (es : List Evidence) (e : Evidence) → evidence_from g s affordable k n es ≡ Ok m → evidence_weight g s e ≡ Ok x → affordable (m + x) ≡ true → evidence_from g s affordable k n (es ++ e ∷ []) ≡ Ok (m + x)
   evidence-append affordable k n m x [] e h i j =
       let l : n ≡ m = cc in
@@ -159,6 +180,7 @@ module _ (g : Setting) (s : State) where
       by_weight (Ok w) ih h = by_test w (affordable (n + w)) (ih w) h
       by_weight (Err r) ih h = cc
 
+  -- the weight with one more run of an open end
   weights-append : (m x : ℕ) (es : List Evidence) (e : Evidence) → open_weights g s es ≡ Ok m → open_weight g s e ≡ Ok x → open_weights g s (es ++ e ∷ []) ≡ Ok (m + x)
   weights-append m x [] e h i =
       let l : 0 ≡ m = cc in
@@ -184,12 +206,14 @@ module _ (g : Setting) (budget w0 : ℕ) (s : State) (Fine : Polynomial Symbol �
     weighed : open_weights g s es ≡ Ok weight
     names : places_of es ++ ps ≡ critical_pairs g.symbols s
 
+  -- the line of a chain with all its evidence holds
   chain_holds : (w : ℕ) (es : List Evidence) → SoFar w es [] → EntryHolds g budget w0 s (with_evidence chain es)
   unfolding entered
   chain_holds w es h =
       ap (λ q. is_ok {T = Below} {E = ℕ × Rule} (numbered 0 q >>= (λ _. evidence_from g s (λ n. nat_le (w0 + n) budget) 1 0 es) >>= (λ n. Ok (ended chain s n)))) (rest.is_chain es (sym (append-nil (places_of es)) ∙ h.names))
       ∙ ap (λ (q : Result ℕ (ℕ × Rule)). is_ok {T = Below} {E = ℕ × Rule} (q >>= (λ n. Ok (ended chain s n)))) h.chained
 
+  -- an open end holds where the evidence passes the budget
   spent_holds : (w x : ℕ) (es : List Evidence) (e : Evidence) (ps : List (ℕ × ℕ)) → SoFar w es ((e.first, e.second) ∷ ps) → open_weight g s e ≡ Ok x → budget < w + x → EntryHolds g budget w0 s (with_evidence spent_pairs (es ++ e ∷ []))
   unfolding entered reason_holds
   spent_holds w x es e ps h i l = holds_needs (not (is_empty (es ++ e ∷ [])) && is_increasing (es ++ e ∷ []) && weighs_more budget w0 (open_weights g s (es ++ e ∷ []))) _ rules.Reason
@@ -198,11 +222,13 @@ module _ (g : Setting) (budget w0 : ℕ) (s : State) (Fine : Polynomial Symbol �
 
   -- the parts of a pair's answers
   module _ (i j : ℕ) (n : NamesPair g.symbols s.equations (i, j)) where
+    -- their Delta-polynomial
     delta_is : delta_at g s (i, j) ≡ delta_answer g n.first n.second
     delta_is =
         ap (λ o. elim o as (λ _. Result (Polynomial Symbol) Refusal) [ None ↦ Ok [] | Some a ↦ elim (at_place j s.equations) as (λ _. Result (Polynomial Symbol) Refusal) [ None ↦ Ok [] | Some b ↦ delta_answer g a b ] ]) n.first_is
         ∙ ap (λ o. elim o as (λ _. Result (Polynomial Symbol) Refusal) [ None ↦ Ok [] | Some b ↦ delta_answer g n.first b ]) n.second_is
 
+    -- the weight of a run from it
     open_weight_is : (steps : List Step) (d : Polynomial Symbol) (x : Ran) → delta_answer g n.first n.second ≡ Ok d → run g s Free d steps ≡ Ok x → open_weight g s (evidence (i, j) steps) ≡ Ok (1 + length d + x.count)
     open_weight_is steps d x e f =
         given_is (at_place i s.equations) _ _ n.first n.first_is
@@ -211,6 +237,7 @@ module _ (g : Setting) (budget w0 : ℕ) (s : State) (Fine : Polynomial Symbol �
         ∙ ap (λ q. numbered 0 (told_as refusal q) >>= (λ d. told_as run_fault (run g s Free d steps) >>= (λ r. Ok (1 + length d + r.count)))) e
         ∙ ap (λ (q : Result Ran (ℕ × Stop)). told_as run_fault q >>= (λ r. Ok (1 + length d + r.count))) f
 
+    -- and of one that comes to zero
     evidence_weight_is : (steps : List Step) (d : Polynomial Symbol) (x : Ran) → delta_answer g n.first n.second ≡ Ok d → run g s Free d steps ≡ Ok x → is_zero x.end ≡ true → evidence_weight g s (evidence (i, j) steps) ≡ Ok (1 + length d + x.count)
     unfolding evidence_weight
     evidence_weight_is steps d x e f z =
@@ -225,6 +252,7 @@ module _ (g : Setting) (budget w0 : ℕ) (s : State) (Fine : Polynomial Symbol �
     abbrev last : List Step → Polynomial Symbol → Ran → Result Done (ℕ × Fault)
     last steps d r = needs (not (is_zero r.end) && not (is_member g.symbols r.end s.equations) && not (admits g s Free r.end)) (length steps, rule rules.End) >>= (λ _. settled (length steps) (with_equations s (s.equations ++ r.end ∷ []) ∷ []) (1 + length d + r.count))
 
+    -- an addition takes the Delta-polynomial, a run, and its end
     grown_is : (steps : List Step) → perform g s (add i j steps) ≡ (numbered 0 (told_as refusal (delta_answer g n.first n.second)) >>= (λ d. told_as run_fault (run g s Free d steps) >>= last steps d))
     unfolding grown
     grown_is steps =
@@ -233,10 +261,11 @@ module _ (g : Setting) (budget w0 : ℕ) (s : State) (Fine : Polynomial Symbol �
         ∙ given_is (at_place j s.equations) (0, rule rules.Place) (λ q. needs (is_pair g.symbols n.first q) (0, rule rules.Pair) >>= (λ _. numbered 0 (told_as refusal (delta_answer g n.first q)) >>= (λ d. told_as run_fault (run g s Free d steps) >>= last steps d))) n.second n.second_is
         ∙ needs_is (is_pair g.symbols n.first n.second) (0, rule rules.Pair) (λ _. numbered 0 (told_as refusal (delta_answer g n.first n.second)) >>= (λ d. told_as run_fault (run g s Free d steps) >>= last steps d)) n.is_one
 
-    -- an addition whose Delta-polynomial or run is refused
+    -- an addition whose Delta-polynomial is refused
     delta_refused : (steps : List Step) (r : Refusal) → delta_answer g n.first n.second ≡ Err r → perform g s (add i j steps) ≡ Err (0, refusal r)
     delta_refused steps r h = grown_is steps ∙ ap (λ q. numbered 0 (told_as refusal q) >>= (λ d. told_as run_fault (run g s Free d steps) >>= last steps d)) h
 
+    -- an addition whose run is refused
     run_refused : (steps : List Step) (d : Polynomial Symbol) (e : ℕ × Stop) → delta_answer g n.first n.second ≡ Ok d → run g s Free d steps ≡ Err e → perform g s (add i j steps) ≡ Err (run_fault e)
     run_refused steps d e h k = grown_is steps ∙ ap (λ q. numbered 0 (told_as refusal q) >>= (λ d. told_as run_fault (run g s Free d steps) >>= last steps d)) h ∙ ap (λ (q : Result Ran (ℕ × Stop)). told_as run_fault q >>= last steps d) k
 
@@ -255,6 +284,7 @@ module _ (g : Setting) (budget w0 : ℕ) (s : State) (Fine : Polynomial Symbol �
         no_two true h k = cc
         no_two false h k = cc
 
+    -- the line of an addition within the budget holds
     affordable_goes : (steps : List Step) (after : List State) (x : ℕ) → perform g s (add i j steps) ≡ settled (length steps) after x → w0 + x ≤ budget → EntryHolds g budget w0 s (affordable g s (add i j steps))
     unfolding entered
     affordable_goes steps after x e low = by_limit (limit_passed after) refl
@@ -272,6 +302,7 @@ module _ (g : Setting) (budget w0 : ℕ) (s : State) (Fine : Polynomial Symbol �
             let p : perform g s (add i j steps) ≡ Err (length steps, refusal (large limit)) = e ∙ ap (λ o. numbered (length steps) (within o) >>= (λ _. Ok (record { after = after; weight = x }))) h in
             subst (EntryHolds g budget w0 s) (sym (ap shape p)) (open_holds g budget w0 s (add i j steps) (refusal (large limit)) p tt)
 
+  -- the line that is next after some pairs holds
   pub pairs_go : (w : ℕ) (es : List Evidence) (ps : List (ℕ × ℕ)) → SoFar w es ps → AllOf (NamesPair g.symbols s.equations) ps → EntryHolds g budget w0 s (pairs_next g budget s w es ps)
   pairs_go w es [] h ns = chain_holds w es h
   pairs_go w es ((i, j) ∷ ps) h ns = by_delta (delta_at g s (i, j)) (sym (delta_is i j n)) (λ w' es' h'. pairs_go w' es' ps h' ns.1)

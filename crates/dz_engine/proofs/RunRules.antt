@@ -1,6 +1,6 @@
 -- The lines of the rules by full runs hold: reduce and weed.
 use Rattle.std.specs.Prelude.{is_some}
-use Rattle.std.proofs.Common.{◌≡◌, ℕ, zero, suc, ◌+◌, ◌-◌, ◌≤◌, ◌<◌, nat_lt, Bool, true, false, not, ◌||◌, cond, List, [], ◌∷◌, ◌++◌, length, refl, sym, ap, ◌∙◌, subst, Result, Ok, Err, Option, Some, None, arith, append_assoc}
+use Rattle.std.proofs.Common.{◌≡◌, ◌≢◌, ℕ, zero, suc, ◌+◌, ◌-◌, ◌≤◌, ◌<◌, nat_lt, Bool, true, false, not, ◌||◌, cond, List, [], ◌∷◌, ◌++◌, length, refl, sym, ap, ◌∙◌, subst, Result, Ok, Err, Option, Some, None, arith, append_assoc}
 use Rattle.std.proofs.lemmas.Bool.{ltb-true, ltb-false}
 use Rattle.dz_algebra.specs.Order.{IsOrder}
 use Rattle.dz_algebra.specs.Polynomial.{Polynomial}
@@ -27,15 +27,13 @@ use Rattle.dz_tree.specs.Fault.{Fault, rule, fault_of, run_fault}
 use Rattle.dz_tree.specs.Moves.{Action, steps_of, reduce, weed, moved, with_equations, with_inequations, reduced, weeded, perform}
 use Rattle.dz_tree.specs.Lines.{Entry}
 use Rattle.dz_engine.specs.Order.{plain, by_course, reduce_next, weed_next}
-use Rattle.dz_engine.specs.Ready.{IsAnswered, StepsGo, NeverReturns, IsFine, EntryHolds}
+use Rattle.dz_engine.specs.Ready.{StepsGo, NeverReturns, IsFine, EntryHolds}
 use Rattle.dz_engine.proofs.EasyRules.{IsRefusal, Answers, answers_settled, answers_given, answers_needs, found, open_holds, plain_goes}
 
 -- the fault of a step that an operation refuses is a refusal
-pub stop_refuses : {A : Type 0} (q : Result A Stop) (stop : Stop) → q ≡ Err stop → IsAnswered q → IsRefusal (fault_of stop)
+stop_refuses : {A : Type 0} (q : Result A Stop) (stop : Stop) → q ≡ Err stop → q ≢ Err no_step → IsRefusal (fault_of stop)
 stop_refuses q (refused r) e h = tt
-stop_refuses (Ok x) no_step e h = cc
-stop_refuses (Err (refused r)) no_step e h = cc
-stop_refuses (Err no_step) no_step e h = absurd h
+stop_refuses q no_step e h = absurd (h e)
 
 -- ---- full runs that are cut or stopped
 module _ (g : Setting) (s : State) (role : Role) (budget : ℕ) (Fine : Polynomial Symbol → Type 0) (go : StepsGo g s role Fine) where
@@ -57,6 +55,7 @@ module _ (g : Setting) (s : State) (role : Role) (budget : ℕ) (Fine : Polynomi
     is_run : run_from g s role n f count (first ∷ rest) ≡ Ok ran
     is_past : budget < (ran).count
 
+  -- what a full run that is stopped did, from some point on
   stopped_is : (rounds : ℕ) (done : List Step) (f : Polynomial Symbol) (count : ℕ) (steps : List Step) (stop : Stop) (n : ℕ) → Fine f
       → full_run_from g s role budget rounds done f count ≡ stopped steps stop → IsStopped f count n done steps stop
   stopped_is zero done f count steps stop n fine e = cc
@@ -90,7 +89,7 @@ module _ (g : Setting) (s : State) (role : Role) (budget : ℕ) (Fine : Polynomi
             number = n;
             number_is = omega arith;
             is_stopped = ap (λ q. numbered n q >>= (λ r. run_from g s role (suc n) r (count + 1 + length r) [])) i ∙ ap (λ x. Err (n, x)) b;
-            is_refusal = stop_refuses (step_in g s role f st) stop (i ∙ ap (λ x. Err x) b) (go.answered f st fine h);
+            is_refusal = stop_refuses (step_in g s role f st) stop (i ∙ ap (λ x. Err x) b) (go.next_is_step f st fine h);
           }
       by_answer st (Ok r) h i ih e = by_test (nat_lt budget (count + 1 + length r)) st r i ih e
 
@@ -105,6 +104,7 @@ module _ (g : Setting) (s : State) (role : Role) (budget : ℕ) (Fine : Polynomi
       by_step None h ih e = cc
       by_step (Some st) h ih e = by_answer st (step_in g s role f st) h refl ih e
 
+  -- what a full run that is cut did
   past_is : (rounds : ℕ) (done : List Step) (f : Polynomial Symbol) (count : ℕ) (steps : List Step) (n : ℕ) → count ≤ budget → budget < rounds + count
       → full_run_from g s role budget rounds done f count ≡ passed steps → IsPast f count n done steps
   past_is zero done f count steps n low enough e = absurd (omega (arith, low, enough))
@@ -152,6 +152,7 @@ module _ (g : Setting) (s : State) (role : Role) (budget : ℕ) (Fine : Polynomi
       by_step None ih e = cc
       by_step (Some st) ih e = by_answer st (step_in g s role f st) refl ih e
 
+  -- the count of a full run that comes to its end
   low_is : (rounds : ℕ) (done : List Step) (f : Polynomial Symbol) (count : ℕ) (steps : List Step) (end : Polynomial Symbol) (c : ℕ) → count ≤ budget → full_run_from g s role budget rounds done f count ≡ finished steps end c → c ≤ budget
   low_is zero done f count steps end c low e = cc
   low_is (suc rounds) done f count steps end c low e = by_step (next_step g s role f) (λ st r k z h. low_is rounds (done ++ st ∷ []) r k steps end c z h) e
@@ -201,18 +202,21 @@ module _ (g : Setting) (s : State) (role : Role) (budget : ℕ) (Fine : Polynomi
 
 -- ---- a place that changes
 module _ (g : Symbols Symbol) where
+  -- lists that are the same are equally long
   same_all_length : (ps qs : List (Polynomial Symbol)) → same_all g ps qs ≡ true → length ps ≡ length qs
   same_all_length [] [] e = refl
   same_all_length [] (q ∷ qs) e = cc
   same_all_length (p ∷ ps) [] e = cc
   same_all_length (p ∷ ps) (q ∷ qs) e = ap suc (same_all_length ps qs (both (same g p q) (same_all g ps qs) e).1)
 
+  -- a list without a place is shorter
   without_length : (i : ℕ) (x : Polynomial Symbol) (xs : List (Polynomial Symbol)) → at_place i xs ≡ Some x → suc (length (without_place i xs)) ≡ length xs
   without_length i x [] e = cc
   without_length zero x (y ∷ ys) e = cc
   without_length (suc zero) x (y ∷ ys) e = refl
   without_length (suc (suc i)) x (y ∷ ys) e = ap suc (without_length (suc i) x ys e)
 
+  -- where a replaced place changes nothing, both polynomials are the same
   same_replaced : (i : ℕ) (x y : Polynomial Symbol) (xs : List (Polynomial Symbol)) → at_place i xs ≡ Some x → same_all g xs (replaced i y xs) ≡ true → same g x y ≡ true
   same_replaced i x y [] e h = cc
   same_replaced zero x y (z ∷ zs) e h = cc
@@ -235,6 +239,7 @@ answers_run n q f x e h = subst (λ r. Answers n (told_as run_fault r >>= f)) (s
 
 -- ---- reduce and weed
 module _ (g : Setting) (order : IsOrder g.symbols.cmp) (budget w : ℕ) (s : State) (Fine : Polynomial Symbol → Type 0) where
+  -- a run from an equation to another end may be put in its place
   reduce_answers : (i : ℕ) (p : Polynomial Symbol) (steps : List Step) (x : Ran) → at_place i s.equations ≡ Some p → run g s (Equation i) p steps ≡ Ok x → (x.end ≡ p → ⊥) → Answers (length steps) (perform g s (reduce i steps))
   unfolding reduced
   reduce_answers i p steps x a e n =
@@ -243,12 +248,14 @@ module _ (g : Setting) (order : IsOrder g.symbols.cmp) (budget w : ℕ) (s : Sta
       (is_not _ (λ h. put_differs g.symbols (is_zero x.end || is_member g.symbols x.end (without_place i s.equations)) i p x.end s.equations a (λ z. n (sym (same_is g.symbols order p x.end z))) (both (same_all g.symbols s.equations (put_equation g.symbols i x.end s.equations)) (same_all g.symbols s.inequations s.inequations) h).0))
       (answers_settled (length steps) (with_equations s (put_equation g.symbols i x.end s.equations) ∷ []) (1 + x.count))))
 
+  -- a reduction whose run is refused
   reduce_refused : (i : ℕ) (p : Polynomial Symbol) (steps : List Step) (e : ℕ × Stop) → at_place i s.equations ≡ Some p → run g s (Equation i) p steps ≡ Err e → perform g s (reduce i steps) ≡ Err (run_fault e)
   unfolding reduced
   reduce_refused i p steps e a h =
       ap (λ (o : Option (Polynomial Symbol)). given o (0, rule rules.Place) >>= (λ f. told_as run_fault (run g s (Equation i) f steps) >>= (λ r. moved g s (length steps) (with_equations s (put_equation g.symbols i r.end s.equations)) (1 + r.count)))) a
       ∙ ap (λ (q : Result Ran (ℕ × Stop)). told_as run_fault q >>= (λ r. moved g s (length steps) (with_equations s (put_equation g.symbols i r.end s.equations)) (1 + r.count))) h
 
+  -- a run from an inequation to another end may be put in its place
   weed_answers : (j : ℕ) (p : Polynomial Symbol) (steps : List Step) (x : Ran) → at_place j s.inequations ≡ Some p → run g s (Inequation j) p steps ≡ Ok x → (x.end ≡ p → ⊥) → Answers (length steps) (perform g s (weed j steps))
   unfolding weeded
   weed_answers j p steps x a e n =
@@ -257,6 +264,7 @@ module _ (g : Setting) (order : IsOrder g.symbols.cmp) (budget w : ℕ) (s : Sta
       (is_not _ (λ h. put_differs g.symbols (is_unit g.symbols x.end || is_member g.symbols x.end (without_place j s.inequations)) j p x.end s.inequations a (λ z. n (sym (same_is g.symbols order p x.end z))) (both (same_all g.symbols s.equations s.equations) (same_all g.symbols s.inequations (put_inequation g.symbols j x.end s.inequations)) h).1))
       (answers_settled (length steps) (with_inequations s (put_inequation g.symbols j x.end s.inequations) ∷ []) (1 + x.count))))
 
+  -- a weeding whose run is refused
   weed_refused : (j : ℕ) (p : Polynomial Symbol) (steps : List Step) (e : ℕ × Stop) → at_place j s.inequations ≡ Some p → run g s (Inequation j) p steps ≡ Err e → perform g s (weed j steps) ≡ Err (run_fault e)
   unfolding weeded
   weed_refused j p steps e a h =

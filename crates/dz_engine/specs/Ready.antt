@@ -1,5 +1,5 @@
 -- What is asked of a state, so that the order of work names a line that holds there (this project).
-use Rattle.std.specs.Prelude.{◌≡◌, ⊤, ℕ, false, true, List, [], ◌∷◌, Result, Ok, Err, Some, None, IsOk}
+use Rattle.std.specs.Prelude.{◌≡◌, ◌≢◌, ℕ, false, true, List, [], ◌∷◌, Ok, Err, Some, None, IsOk}
 use Rattle.std.specs.List.{list_all}
 use Rattle.dz_algebra.specs.Norm.{norm}
 use Rattle.dz_algebra.specs.Parts.{leader}
@@ -14,7 +14,7 @@ use Rattle.dz_diff.specs.Tests.{is_member}
 use Rattle.dz_step.specs.declared.Role.{Role}
 use Rattle.dz_step.specs.declared.Role.TheVariants.{Free}
 use Rattle.dz_step.specs.declared.Step.{Step}
-use Rattle.dz_step.specs.Step.{Stop, refused, no_step, step_in}
+use Rattle.dz_step.specs.Step.{no_step, step_in}
 use Rattle.dz_step.specs.Run.{Ran, run}
 use Rattle.dz_step.specs.FullRun.{admits, next_step}
 use Rattle.dz_pair.specs.Pair.{common, critical_pairs, delta_answer, is_pair}
@@ -25,20 +25,15 @@ use Rattle.dz_tree.specs.Walk.{entered}
 use Rattle.dz_engine.specs.Order.{divide_next, reduce_next, factor_next, split_next, weed_next}
 
 -- ---- steps and runs
--- there is a result, or an operation is refused
-abbrev pub IsAnswered : {A : Type 0} → Result A Stop → Type 0
-IsAnswered (Ok x) = ⊤
-IsAnswered (Err (refused r)) = ⊤
-IsAnswered (Err no_step) = ⊥
-
--- steps in a role keep what is known of polynomials, and what a full run takes next is a step
+-- steps in a role keep what is known of polynomials, and what a full run takes next is a step: it has a result, or an operation
+-- of it is refused
 pub record StepsGo (g : Setting) (s : State) (role : Role) (Fine : Polynomial Symbol → Type 0) : Type 0 where
   pub keeps : (f r : Polynomial Symbol) (st : Step) → Fine f → step_in g s role f st ≡ Ok r → Fine r
-  pub answered : (f : Polynomial Symbol) (st : Step) → Fine f → next_step g s role f ≡ Some st → IsAnswered (step_in g s role f st)
+  pub next_is_step : (f : Polynomial Symbol) (st : Step) → Fine f → next_step g s role f ≡ Some st → step_in g s role f st ≢ Err no_step
 
 -- a run of some steps never ends where it began
 abbrev pub NeverReturns : Setting → State → Role → (Polynomial Symbol → Type 0) → Type 0
-NeverReturns g s role Fine = (f : Polynomial Symbol) (st : Step) (steps : List Step) (x : Ran) → Fine (norm f) → run g s role f (st ∷ steps) ≡ Ok x → x.end ≡ norm f → ⊥
+NeverReturns g s role Fine = (f : Polynomial Symbol) (st : Step) (steps : List Step) (x : Ran) → Fine (norm f) → run g s role f (st ∷ steps) ≡ Ok x → x.end ≢ norm f
 
 -- ---- states
 -- a separant of an equation is refused only if it is wide
