@@ -14,6 +14,9 @@ use Rattle.dz_diff.specs.Over.{IsOver}
 use Rattle.dz_diff.specs.State.{State}
 use Rattle.dz_diff.specs.Root.{System, is_closed, root_of}
 use Rattle.dz_diff.proofs.Answers.{bind_ok, told_ok, then_ok, ok_same}
+use Rattle.dz_diff.specs.Tests.{Polynomials, is_member}
+use Rattle.dz_step.specs.FullRun.{admits}
+use Rattle.dz_poly.specs.Ranked.{symbols_under}
 use Rattle.dz_step.specs.declared.Role.TheVariants.{Free, Equation, Inequation}
 use Rattle.dz_pair.specs.Pair.{critical_pairs}
 use Rattle.dz_tree.specs.declared.Rule.{Rule}
@@ -26,10 +29,11 @@ use Rattle.dz_tree.specs.Walk.{Below, ended, nothing_below, told_at_line, entere
 use Rattle.dz_tree.proofs.Progress.{perform_leads}
 use Rattle.dz_engine.specs.Order.{line_alone, closed_next, divide_next, reduce_next, factor_next, split_next, weed_next, pairs_next, first_of, next_entry}
 use Rattle.dz_engine.specs.Worked.{IsWorkedFrom, IsWorked, worked_from, worked_lines}
-use Rattle.dz_engine.specs.Ready.{IsReady, IsReached, EntryHolds}
+use Rattle.dz_engine.specs.Ready.{AtRest, IsFine, IsReady, IsReached, EntryHolds}
 use Rattle.dz_engine.specs.Laws.{OrderLaws}
 use Rattle.dz_engine.proofs.WorkedTrees.{Goes, worked_is_there}
 use Rattle.dz_engine.proofs.EasyRules.{closed_goes, divide_goes, factor_goes, split_goes}
+use Rattle.dz_engine.proofs.RestingPlaces.{chain_admits}
 use Rattle.dz_engine.proofs.RunRules.{reduce_goes, weed_goes}
 use Rattle.dz_engine.proofs.PairRules.{pairs_goes}
 
@@ -47,7 +51,8 @@ not_closed g s e = by_test (is_closed g.symbols s) e
     by_test true e = cc
     by_test false e = refl
 
-module _ (g : Setting) (order : IsOrder g.symbols.cmp) (budget w : ℕ) (Fine : Polynomial Symbol → Type 0) (s : State) (ready : IsReady g budget w Fine s) (low : w ≤ budget) where
+module _ (g : Setting) (order : IsOrder g.symbols.cmp) (budget w : ℕ) (Fine : Polynomial Symbol → Type 0) (s : State) (ready : IsReady g budget w Fine s) (low : w ≤ budget)
+    (admitting : AtRest g s Fine → (f : Polynomial Symbol) → is_member g.symbols f s.equations ≡ true → admits g s Free f ≡ true) where
   -- the entry that is next holds
   pub next_holds : EntryHolds g budget w s (next_entry g budget w s)
   unfolding next_entry
@@ -58,7 +63,8 @@ module _ (g : Setting) (order : IsOrder g.symbols.cmp) (budget w : ℕ) (Fine : 
       first_is (EntryHolds g budget w s) (factor_next g budget w s) _ _ (factor_goes g budget w s) (λ f.
       first_is (EntryHolds g budget w s) (split_next g budget w s) _ _ (split_goes g budget w s ready.separants) (λ p.
       first_is (EntryHolds g budget w s) (weed_next g budget w s) [] (pairs_next g budget s w [] (critical_pairs g.symbols s)) (weed_goes g order budget w s Fine (λ i. (ready.steps_go (Inequation i), ready.never_returns (Inequation i))) ready.inequations_fine) (λ v.
-      pairs_goes g budget w s Fine (ready.steps_go Free) (ready.at_rest (not_closed g s c) d r f p v) low))))))
+      let rest = ready.at_rest (not_closed g s c) d r f p v in
+      pairs_goes g budget w s Fine (ready.steps_go Free) rest (admitting rest) low))))))
 
 -- ---- what stands below
 module _ (g : Setting) (budget w : ℕ) (s : State) (FineState : State → Type 0) (kept : (action : Action) (d : Done) → perform g s action ≡ Ok d → AllOf FineState d.after) (low : w ≤ budget) where
@@ -119,14 +125,25 @@ module _ (g : Setting) (budget w : ℕ) (s : State) (FineState : State → Type 
       by_answer (Ok b) e h = let k = below_is (next_entry g budget w s).line (next_entry g budget w s).evidence b e in record { below = b; holds = e; affordable = k.0; fine = k.2; few = k.1 }
       by_answer (Err r) e h = cc
 
+-- ---- over a ranking
+-- all equations are over the ranking
+all_fine : (Fine : Polynomial Symbol → Type 0) (ps : Polynomials) → AllOf (IsFine Fine) ps → AllOf Fine ps
+all_fine Fine [] h = tt
+all_fine Fine (p ∷ ps) h = ((h.0).0, all_fine Fine ps h.1)
+
+-- the line that is next holds where the state is ready
+pub ready_holds : (r : RankingValue) → r.signature.independents ≤ 4 → (budget w : ℕ) (s : State) → w ≤ budget → IsReady (setting_of r) budget w (IsOver r) s → EntryHolds (setting_of r) budget w s (next_entry (setting_of r) budget w s)
+ready_holds r few budget w s low ready =
+    next_holds (setting_of r) (ranking_order r) budget w (IsOver r) s ready low (λ rest. chain_admits r few s (all_fine (IsOver r) s.equations ready.equations_fine) rest.is_chain)
+
 -- ---- the worked tree
 -- the worked entries are there, where each state is ready and stays so
-pub entries_there : (g : Setting) (order : IsOrder g.symbols.cmp) (budget : ℕ) (Fine : Polynomial Symbol → Type 0) (FineState : State → Type 0)
-    → ((w : ℕ) (s : State) → w ≤ budget → FineState s → IsReady g budget w Fine s)
-    → ((s : State) (action : Action) (d : Done) → FineState s → perform g s action ≡ Ok d → AllOf FineState d.after)
-    → (s : State) → FineState s → IsWorkedFrom g budget 0 (s ∷ []) (worked_from g budget (2 * budget + 1) 0 (s ∷ []))
-entries_there g order budget Fine FineState ready kept s h =
-    worked_is_there g budget FineState (λ w t low k. goes_from g budget w t FineState (λ action d e. kept t action d k e) low (next_holds g order budget w Fine t (ready w t low k) low))
+pub entries_there : (r : RankingValue) → r.signature.independents ≤ 4 → (budget : ℕ) (FineState : State → Type 0)
+    → ((w : ℕ) (s : State) → w ≤ budget → FineState s → IsReady (setting_of r) budget w (IsOver r) s)
+    → ((s : State) (action : Action) (d : Done) → FineState s → perform (setting_of r) s action ≡ Ok d → AllOf FineState d.after)
+    → (s : State) → FineState s → IsWorkedFrom (setting_of r) budget 0 (s ∷ []) (worked_from (setting_of r) budget (2 * budget + 1) 0 (s ∷ []))
+entries_there r few budget FineState ready kept s h =
+    worked_is_there (setting_of r) budget FineState (λ w t low k. goes_from (setting_of r) budget w t FineState (λ action d e. kept t action d k e) low (ready_holds r few budget w t low (ready w t low k)))
     (2 * budget + 1) 0 budget (s ∷ []) (omega arith) (omega arith) (h, tt)
 
 -- ---- lines and entries
@@ -182,15 +199,13 @@ reached_after g system s action d h e =
 
 -- ---- the laws
 -- a worked tree is there, where every state that is reached is ready
-tree_there : (g : Setting) (order : IsOrder g.symbols.cmp) (budget : ℕ) (Fine : Polynomial Symbol → Type 0) (system : System) → ((w : ℕ) (s : State) → w ≤ budget → IsReached g system s → IsReady g budget w Fine s)
-    → IsWorked g system (record { budget = budget; lines = worked_lines g budget (2 * budget + 1) system })
-tree_there g order budget Fine system ready =
-    let h = entries_there g order budget Fine (IsReached g system) ready (λ s action d k e. reached_after g system s action d k e) (root_of g.symbols system) ([], refl) in
-    subst (λ (es : List Entry). IsWorkedFrom g budget 0 (root_of g.symbols system ∷ []) es) (sym (ap (λ (r : List Evidence × List Entry). r.1) (worked_grouped g budget 0 (root_of g.symbols system ∷ []) _ h))) h
+tree_there : (r : RankingValue) → r.signature.independents ≤ 4 → (budget : ℕ) (system : System) → ((w : ℕ) (s : State) → w ≤ budget → IsReached (setting_of r) system s → IsReady (setting_of r) budget w (IsOver r) s)
+    → IsWorked (setting_of r) system (record { budget = budget; lines = worked_lines (setting_of r) budget (2 * budget + 1) system })
+tree_there r few budget system ready =
+    let root = root_of (symbols_under r) system in
+    let h = entries_there r few budget (IsReached (setting_of r) system) ready (λ s action d k e. reached_after (setting_of r) system s action d k e) root ([], refl) in
+    subst (λ (es : List Entry). IsWorkedFrom (setting_of r) budget 0 (root ∷ []) es) (sym (ap (λ (q : List Evidence × List Entry). q.1) (worked_grouped (setting_of r) budget 0 (root ∷ []) _ h))) h
 
 -- the laws of the order of work
-pub order_laws : (r : RankingValue) (budget : ℕ) → OrderLaws r budget
-order_laws r budget = record {
-  holds = λ w s low ready. next_holds (setting_of r) (ranking_order r) budget w (IsOver r) s ready low;
-  is_there = tree_there (setting_of r) (ranking_order r) budget (IsOver r);
-}
+pub order_laws : (r : RankingValue) → r.signature.independents ≤ 4 → (budget : ℕ) → OrderLaws r budget
+order_laws r few budget = record { holds = ready_holds r few budget; is_there = tree_there r few budget }

@@ -196,7 +196,8 @@ module _ (g : Setting) (s : State) where
           ap (λ (q : Result ℕ (ℕ × Fault)). q >>= (λ m. Ok (n + m))) (ih k j) ∙ ap (λ (z : ℕ). Ok z) (omega (arith, l))
 
 -- ---- the pairs
-module _ (g : Setting) (budget w0 : ℕ) (s : State) (Fine : Polynomial Symbol → Type 0) (go : StepsGo g s Free Fine) (rest : AtRest g s Fine) where
+module _ (g : Setting) (budget w0 : ℕ) (s : State) (Fine : Polynomial Symbol → Type 0) (go : StepsGo g s Free Fine) (rest : AtRest g s Fine)
+    (admitting : (f : Polynomial Symbol) → is_member g.symbols f s.equations ≡ true → admits g s Free f ≡ true) where
   -- the evidence so far and the weight with it
   pub record SoFar (w : ℕ) (es : List Evidence) (ps : List (ℕ × ℕ)) : Type 0 where
     weight : ℕ
@@ -278,7 +279,7 @@ module _ (g : Setting) (budget w0 : ℕ) (s : State) (Fine : Polynomial Symbol �
         ∙ ap (λ q. numbered 0 (told_as refusal q) >>= (λ d. told_as run_fault (run g s Free d steps) >>= last steps d)) e
         ∙ ap (λ (q : Result Ran (ℕ × Stop)). told_as run_fault q >>= last steps d) f
         ∙ needs_is (not (is_zero x.end) && not (is_member g.symbols x.end s.equations) && not (admits g s Free x.end)) (length steps, rule rules.End) (λ _. settled (length steps) (with_equations s (s.equations ++ x.end ∷ []) ∷ []) (1 + length d + x.count))
-        (and_is _ _ (and_is _ _ (ap not z) (is_not _ (λ m. no_two (admits g s Free x.end) (rest.members_admit x.end m) quiet))) (ap not quiet))
+        (and_is _ _ (and_is _ _ (ap not z) (is_not _ (λ m. no_two (admits g s Free x.end) (admitting x.end m) quiet))) (ap not quiet))
       where
         no_two : (b : Bool) → b ≡ true → b ≡ false → ⊥
         no_two true h k = cc

@@ -10,13 +10,12 @@ use Rattle.dz_diff.specs.Lists.{AllOf, SomeOf}
 use Rattle.dz_diff.specs.Operations.{Setting}
 use Rattle.dz_diff.specs.Root.{System, is_closed, root_of}
 use Rattle.dz_diff.specs.State.{State, at_place}
-use Rattle.dz_diff.specs.Tests.{is_member}
 use Rattle.dz_step.specs.declared.Role.{Role}
 use Rattle.dz_step.specs.declared.Role.TheVariants.{Free}
 use Rattle.dz_step.specs.declared.Step.{Step}
 use Rattle.dz_step.specs.Step.{no_step, step_in}
 use Rattle.dz_step.specs.Run.{Ran, run}
-use Rattle.dz_step.specs.FullRun.{admits, next_step}
+use Rattle.dz_step.specs.FullRun.{next_step}
 use Rattle.dz_pair.specs.Pair.{common, critical_pairs, delta_answer, is_pair}
 use Rattle.dz_tree.specs.Moves.{Action, Done, perform}
 use Rattle.dz_tree.specs.Chain.{Evidence, chain_rule, is_below, passes}
@@ -57,8 +56,6 @@ pub record AtRest (g : Setting) (s : State) (Fine : Polynomial Symbol → Type 0
   -- the steps of a run from it are below the least common derivative
   pub coherent : (i j : ℕ) (p q d : Polynomial Symbol) (steps : List Step) (x : Ran) → at_place i s.equations ≡ Some p → at_place j s.equations ≡ Some q → is_pair g.symbols p q ≡ true
       → delta_answer g p q ≡ Ok d → run g s Free d steps ≡ Ok x → passes (λ w. list_all (is_below g.symbols s w) steps) (common g.symbols p q) ≡ true
-  -- an equation admits a step
-  pub members_admit : (f : Polynomial Symbol) → is_member g.symbols f s.equations ≡ true → admits g s Free f ≡ true
   -- it is a chain, but for the runs of its evidence
   pub is_chain : (es : List Evidence) → places_of es ≡ critical_pairs g.symbols s → chain_rule g s es ≡ Ok tt
 

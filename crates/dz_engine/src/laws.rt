@@ -3,7 +3,7 @@
 //! Each function has an empty body: it does nothing, and its clause is the law, or what was
 //! computed by hand.
 
-ghost use Rattle.std.specs.Prelude.{ℕ};
+ghost use Rattle.std.specs.Prelude.{◌≤◌, ℕ};
 ghost use Rattle.dz_rank.specs.Rankings.{RankingValue};
 ghost use Rattle.dz_diff.specs.Operations.{Setting};
 ghost use Rattle.dz_engine.specs.Laws.{WorkedLaws, OrderLaws};
@@ -27,7 +27,7 @@ pub fn worked_trees_are_certified()
 /// names holds, and where all states that are reached are ready, there is a worked tree.
 #[tactic(auto, using(crate::proofs::OrderOfWork::order_laws))]
 pub fn order_of_work_goes_on()
-    ensures { (r : RankingValue) (budget : ℕ) → OrderLaws r budget }
+    ensures { (r : RankingValue) → r.signature.independents ≤ 4 → (budget : ℕ) → OrderLaws r budget }
 {}
 
 /// Steps need permission, runs may end at zero, and a full run is cut at its budget.
