@@ -1,6 +1,6 @@
 -- Steps lower degrees, so a run of some steps never ends where it began.
 use Rattle.std.specs.Prelude.{⊤, sum, not, nat_le, take}
-use Rattle.std.proofs.Common.{◌≡◌, ◌≢◌, ℕ, zero, suc, ◌+◌, ◌==◌, ◌≤◌, ◌<◌, Bool, true, false, cond, List, [], ◌∷◌, length, refl, sym, ap, ap₂, ◌∙◌, arith, subst, Ok, Option, Some}
+use Rattle.std.proofs.Common.{◌≡◌, ◌≢◌, ℕ, zero, suc, ◌+◌, ◌==◌, ◌≤◌, ◌<◌, Bool, true, false, cond, List, [], ◌∷◌, length, refl, sym, ap, ap₂, ◌∙◌, arith, subst, Result, Ok, Err, Option, Some}
 use Rattle.std.proofs.lemmas.List.Sums.{sum_by-cons}
 use Rattle.std.proofs.lemmas.Bool.{leb-true, eqb-true}
 use Rattle.std.specs.declared.cmp.Ordering.{Ordering}
@@ -40,10 +40,11 @@ use Rattle.dz_diff.proofs.Degrees.{AtMost, IsWithout, exponent_without, exponent
 use Rattle.dz_step.specs.declared.Which.TheVariants.{Initial, Separant}
 use Rattle.dz_step.specs.declared.Role.{Role}
 use Rattle.dz_step.specs.declared.Step.{Step}
-use Rattle.dz_step.specs.Step.{multiplier_answer, multiplier_of, step_degree, step_by, step_in}
+use Rattle.dz_step.specs.Step.{Stop, refused, no_step, multiplier_answer, multiplier_of, step_degree, step_by, step_in}
 use Rattle.dz_step.specs.Run.{Ran, run_from, run}
 use Rattle.dz_step.specs.Laws.{ReductionLaws}
 use Rattle.dz_step.proofs.TakenSteps.{leader_is_derivative, taken_step, good_step}
+use Rattle.dz_step.proofs.NextSteps.{Limited, next_step_is_step}
 use Rattle.dz_step.proofs.Lowering.{each_coefficient, each_monomial}
 use Rattle.dz_step.proofs.StepsLower.{Lowers, proper_lowers, lowers, leader_in, under_leader, leader_regular, zero_above, degree_most}
 
@@ -225,9 +226,19 @@ module _ (R : RankingValue) (few : R.signature.independents ≤ 4) where
 over_regular : (r : RankingValue) (ps : Polynomials) → AllOf (IsOver r) ps → (j : ℕ) (q : Polynomial Symbol) → at_place j ps ≡ Some q → Good r q × PolynomialIn (IsRegular 4) q
 over_regular r ps h j q e = let over = (taken (IsOver r) j q ps e h).0 in (good_over r q over, regular_over r q over)
 
+all_regular : (r : RankingValue) (ps : Polynomials) → AllOf (IsOver r) ps → AllOf (PolynomialIn (IsRegular 4)) ps
+all_regular r [] h = tt
+all_regular r (p ∷ ps) h = (regular_over r p h.0, all_regular r ps h.1)
+
+not_none : {A : Type 0} (q : Result A Stop) → Limited q → q ≢ Err no_step
+not_none (Ok x) h e = cc
+not_none (Err (refused k)) h e = cc
+not_none (Err no_step) h e = h
+
 -- the laws of reduction
 pub reduction_laws : (r : RankingValue) (s : State) → r.signature.independents ≤ 4 → AllOf (IsOver r) s.equations → ReductionLaws r s
 reduction_laws r s few over = record {
   lowers = λ role f x q l st of_f fits at is e. step_lowers r few s role f x q l st (over_regular r s.equations over) fits (good_over r f of_f) at is e;
+  next_is_step = λ role f st of_f e. not_none (step_in (setting_of r) s role f st) (next_step_is_step r s role f st e (regular_over r f of_f) (all_regular r s.equations over));
   never_returns = λ role f st steps x of_f fits e. run_never_returns r few s role f st steps x (over_regular r s.equations over) fits (good_over r f of_f) e;
 }

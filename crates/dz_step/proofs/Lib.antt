@@ -3,3 +3,4 @@ pub mod FullRuns
 pub mod Lowering
 pub mod StepsLower
 pub mod Falls
+pub mod NextSteps

@@ -1,5 +1,5 @@
 -- The laws of runs; the crate's law functions ask for their proofs.
-use Rattle.std.specs.Prelude.{◌≡◌, ◌≢◌, ◌≤◌, ◌<◌, ℕ, false, List, ◌∷◌, Ok, Some}
+use Rattle.std.specs.Prelude.{◌≡◌, ◌≢◌, ◌≤◌, ◌<◌, ℕ, false, List, ◌∷◌, Ok, Err, Some}
 use Rattle.std.specs.declared.cmp.Ordering.TheVariants.{Less}
 use Rattle.dz_algebra.specs.Norm.{norm}
 use Rattle.dz_algebra.specs.Parts.{degree, leader}
@@ -14,9 +14,9 @@ use Rattle.dz_diff.specs.Over.{IsOver}
 use Rattle.dz_diff.specs.State.{State, at_place}
 use Rattle.dz_step.specs.declared.Role.{Role}
 use Rattle.dz_step.specs.declared.Step.{Step}
-use Rattle.dz_step.specs.Step.{step_in}
+use Rattle.dz_step.specs.Step.{no_step, step_in}
 use Rattle.dz_step.specs.Run.{Ran, run}
-use Rattle.dz_step.specs.FullRun.{admits, finished, full_run}
+use Rattle.dz_step.specs.FullRun.{admits, finished, full_run, next_step}
 
 -- a full run that comes to its end is a run with this end and count, and the end admits no step
 pub record FullRunLaws (g : Setting) : Type 0 where
@@ -36,6 +36,8 @@ pub record ReductionLaws (r : RankingValue) (s : State) : Type 0 where
   -- a step lowers the degree in the derivative that its operator makes of its divisor's leader, and raises none above
   pub lowers : (role : Role) (f x q : Polynomial Symbol) (l : Symbol) (st : Step) → IsOver r f → IsOperatorOf r.signature.independents st.operator
       → at_place st.place s.equations ≡ Some q → leader (symbols_under r) q ≡ Some l → step_in (setting_of r) s role f st ≡ Ok x → IsLower r (derivative_by st.operator l) f x
+  -- the step that a full run takes next is a step: where it has no result, an operation of it is refused
+  pub next_is_step : (role : Role) (f : Polynomial Symbol) (st : Step) → IsOver r f → next_step (setting_of r) s role f ≡ Some st → step_in (setting_of r) s role f st ≢ Err no_step
   -- a run of one step or more does not end where it began
   pub never_returns : (role : Role) (f : Polynomial Symbol) (st : Step) (steps : List Step) (x : Ran) → IsOver r f → AllOf (λ (st : Step). IsOperatorOf r.signature.independents st.operator) (st ∷ steps)
       → run (setting_of r) s role f (st ∷ steps) ≡ Ok x → x.end ≢ norm f

@@ -16,8 +16,8 @@ pub fn full_runs_come_to_rest()
     ensures { (g : Setting) → FullRunLaws g }
 {}
 
-/// A step lowers the degree in its derivative and raises none above; so a run of one step or more
-/// does not end where it began.
+/// A step lowers the degree in its derivative and raises none above, so a run of one step or more
+/// does not end where it began; and the step that a full run takes is one.
 #[tactic(auto, using(crate::proofs::Falls::reduction_laws))]
 pub fn steps_lower_degrees()
     ensures { (r : RankingValue) (s : State) → r.signature.independents ≤ 4
