@@ -117,15 +117,15 @@ module _ (R : RankingValue) where
   -- ---- what a search for a step found
   module _ (s : State) (role : Role) (f : Polynomial Symbol) where
     -- a step by the equation at a place of a list, whose places are counted from suc n
-    record FoundStep (v : Symbol) (st : Step) (n : ℕ) (qs : Polynomials) : Type 0 where
-      index : ℕ
-      equation : Polynomial Symbol
-      top : Symbol
-      is_there : at_place index qs ≡ Some equation
-      place_is : st.place ≡ n + index
-      leader_is : leader (symbols_under R) equation ≡ Some top
-      quotient_is : quotient v top ≡ Some st.operator
-      tests : (is_divisor role st.place && nat_le (step_degree (symbols_under R) st.operator top equation) (degree (ranking_cmp R) v f) && is_permitted (setting_of R) s role equation top st.operator) ≡ true
+    pub record FoundStep (v : Symbol) (st : Step) (n : ℕ) (qs : Polynomials) : Type 0 where
+      pub index : ℕ
+      pub equation : Polynomial Symbol
+      pub top : Symbol
+      pub is_there : at_place index qs ≡ Some equation
+      pub place_is : st.place ≡ n + index
+      pub leader_is : leader (symbols_under R) equation ≡ Some top
+      pub quotient_is : quotient v top ≡ Some st.operator
+      pub tests : (is_divisor role st.place && nat_le (step_degree (symbols_under R) st.operator top equation) (degree (ranking_cmp R) v f) && is_permitted (setting_of R) s role equation top st.operator) ≡ true
 
     found_with : (v : Symbol) (st : Step) (j : ℕ) (q : Polynomial Symbol) (o : Option Symbol) → leader (symbols_under R) q ≡ o → step_with (setting_of R) s role f v j q o ≡ Some st
         → (l : Symbol) × (leader (symbols_under R) q ≡ Some l) × (st.place ≡ j) × (quotient v l ≡ Some st.operator) × ((is_divisor role st.place && nat_le (step_degree (symbols_under R) st.operator l q) (degree (ranking_cmp R) v f) && is_permitted (setting_of R) s role q l st.operator) ≡ true)
@@ -164,7 +164,8 @@ module _ (R : RankingValue) where
         by_rest : FoundStep v st (suc n) qs → FoundStep v st n (q ∷ qs)
         by_rest r = record { index = suc r.index; equation = r.equation; top = r.top; is_there = by_index r.index r.equation r.is_there; place_is = r.place_is ∙ omega arith; leader_is = r.leader_is; quotient_is = r.quotient_is; tests = r.tests }
 
-    found_first : (P : Symbol → Type 0) (st : Step) (vs : List Symbol) → first_step (setting_of R) s role f vs ≡ Some st → AllOf P vs → (v : Symbol) × P v × FoundStep v st 0 s.equations
+    -- a step at one of some symbols
+    pub found_first : (P : Symbol → Type 0) (st : Step) (vs : List Symbol) → first_step (setting_of R) s role f vs ≡ Some st → AllOf P vs → (v : Symbol) × P v × FoundStep v st 0 s.equations
     found_first P st [] e h = cc
     found_first P st (v ∷ vs) e h = elim (or_else_is (step_at (setting_of R) s role f v 1 s.equations) (first_step (setting_of R) s role f vs) st e) [
       | inl k ↦ (v, h.0, found_at v st 0 s.equations k)
