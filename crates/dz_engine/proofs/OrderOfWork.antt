@@ -2,7 +2,6 @@
 use Rattle.std.specs.Prelude.{⊤, map, MatchResult}
 use Rattle.std.proofs.Common.{◌≡◌, ℕ, suc, ◌+◌, ◌*◌, ◌≤◌, nat_le, Bool, true, false, cond, List, [], ◌∷◌, ◌++◌, length, refl, sym, ap, ◌∙◌, arith, subst, Result, Ok, Err, Option, Some, None, IsOk, inl, inr}
 use Rattle.std.proofs.lemmas.Bool.{leb-true}
-use Rattle.dz_algebra.specs.Order.{IsOrder}
 use Rattle.dz_algebra.specs.Polynomial.{Polynomial}
 use Rattle.dz_rank.specs.Rankings.{RankingValue}
 use Rattle.dz_rank.specs.declared.symbols.Symbol.{Symbol}
@@ -11,14 +10,20 @@ use Rattle.dz_diff.specs.Lists.{AllOf, SomeOf}
 use Rattle.dz_poly.proofs.SymbolLaws.{ranking_order}
 use Rattle.dz_diff.specs.Operations.{Setting, setting_of}
 use Rattle.dz_diff.specs.Over.{IsOver}
-use Rattle.dz_diff.specs.State.{State}
+use Rattle.dz_diff.specs.State.{State, at_place}
 use Rattle.dz_diff.specs.Root.{System, is_closed, root_of}
 use Rattle.dz_diff.proofs.Answers.{bind_ok, told_ok, then_ok, ok_same}
-use Rattle.dz_diff.specs.Tests.{Polynomials, is_member}
-use Rattle.dz_step.specs.FullRun.{admits}
+use Rattle.dz_diff.specs.Tests.{Polynomials}
 use Rattle.dz_poly.specs.Ranked.{symbols_under}
 use Rattle.dz_step.specs.declared.Role.TheVariants.{Free, Equation, Inequation}
-use Rattle.dz_pair.specs.Pair.{critical_pairs}
+use Rattle.dz_algebra.specs.Norm.{norm}
+use Rattle.dz_rank.specs.Symbols.{IsOperatorOf}
+use Rattle.dz_diff.proofs.Places.{taken}
+use Rattle.dz_step.specs.declared.Role.{Role}
+use Rattle.dz_step.specs.declared.Step.{Step}
+use Rattle.dz_step.specs.Laws.{ReductionLaws}
+use Rattle.dz_step.proofs.Falls.{reduction_laws}
+use Rattle.dz_pair.specs.Pair.{critical_pairs, delta_answer}
 use Rattle.dz_tree.specs.declared.Rule.{Rule}
 use Rattle.dz_tree.specs.declared.Rule.TheVariants as rules
 use Rattle.dz_tree.specs.Moves.{Action, is_fork, Done, perform}
@@ -29,12 +34,13 @@ use Rattle.dz_tree.specs.Walk.{Below, ended, nothing_below, told_at_line, entere
 use Rattle.dz_tree.proofs.Progress.{perform_leads}
 use Rattle.dz_engine.specs.Order.{line_alone, closed_next, divide_next, reduce_next, factor_next, split_next, weed_next, pairs_next, first_of, next_entry}
 use Rattle.dz_engine.specs.Worked.{IsWorkedFrom, IsWorked, worked_from, worked_lines}
-use Rattle.dz_engine.specs.Ready.{AtRest, IsFine, IsReady, IsReached, EntryHolds}
+use Rattle.dz_engine.specs.Ready.{IsNormal, IsReady, IsReached, EntryHolds}
 use Rattle.dz_engine.specs.Laws.{OrderLaws}
 use Rattle.dz_engine.proofs.WorkedTrees.{Goes, worked_is_there}
 use Rattle.dz_engine.proofs.EasyRules.{closed_goes, divide_goes, factor_goes, split_goes}
+use Rattle.dz_engine.proofs.OverOperations.{step_over, next_fits, norm_over, delta_over}
 use Rattle.dz_engine.proofs.RestingPlaces.{chain_admits}
-use Rattle.dz_engine.proofs.RunRules.{reduce_goes, weed_goes}
+use Rattle.dz_engine.proofs.RunRules.{StepsGo, NeverReturns, reduce_goes, weed_goes}
 use Rattle.dz_engine.proofs.PairRules.{pairs_goes}
 
 -- ---- the line that is next
@@ -51,20 +57,50 @@ not_closed g s e = by_test (is_closed g.symbols s) e
     by_test true e = cc
     by_test false e = refl
 
-module _ (g : Setting) (order : IsOrder g.symbols.cmp) (budget w : ℕ) (Fine : Polynomial Symbol → Type 0) (s : State) (ready : IsReady g budget w Fine s) (low : w ≤ budget)
-    (admitting : AtRest g s Fine → (f : Polynomial Symbol) → is_member g.symbols f s.equations ≡ true → admits g s Free f ≡ true) where
-  -- the entry that is next holds
+module _ (r : RankingValue) (few : r.signature.independents ≤ 4) (budget w : ℕ) (s : State) (ready : IsReady r budget w s) (low : w ≤ budget) where
+  abbrev g : Setting
+  g = setting_of r
+
+  -- an operator of the signature
+  abbrev Fits : Step → Type 0
+  Fits st = IsOperatorOf r.signature.independents st.operator
+
+  all_over : (ps : Polynomials) → AllOf (IsNormal r) ps → AllOf (IsOver r) ps
+  all_over [] h = tt
+  all_over (p ∷ ps) h = ((h.0).0, all_over ps h.1)
+
+  over : AllOf (IsOver r) s.equations
+  over = all_over s.equations ready.equations_normal
+
+  laws : ReductionLaws r s
+  laws = reduction_laws r s few over
+
+  steps_go : (role : Role) → StepsGo g s role (IsOver r) Fits
+  steps_go role = record {
+    keeps = λ f x st h e. step_over r few s role f x st over h e;
+    next_is_step = λ f st h e. laws.next_is_step role f st h e;
+    fits = λ f st h e. next_fits r few s role f st over h e;
+  }
+
+  never_returns : (role : Role) → NeverReturns g s role (IsOver r) Fits
+  never_returns role f st steps x h fits e = laws.never_returns role f st steps x h fits e
+
+  -- a Delta-polynomial is over the ranking
+  delta_fine : (i j : ℕ) (p q d : Polynomial Symbol) → at_place i s.equations ≡ Some p → at_place j s.equations ≡ Some q → delta_answer g p q ≡ Ok d → IsOver r (norm d)
+  delta_fine i j p q d a b e = norm_over r few d (delta_over r few p q d e (taken (IsOver r) i p s.equations a over).0 (taken (IsOver r) j q s.equations b over).0)
+
+  -- the line that is next holds
   pub next_holds : EntryHolds g budget w s (next_entry g budget w s)
   unfolding next_entry
   next_holds =
       first_is (EntryHolds g budget w s) (closed_next g s) _ _ (closed_goes g budget w s) (λ c.
       first_is (EntryHolds g budget w s) (divide_next g budget w s) _ _ (divide_goes g budget w s) (λ d.
-      first_is (EntryHolds g budget w s) (reduce_next g budget w s) _ _ (reduce_goes g order budget w s Fine (λ i. (ready.steps_go (Equation i), ready.never_returns (Equation i))) ready.equations_fine) (λ r.
+      first_is (EntryHolds g budget w s) (reduce_next g budget w s) _ _ (reduce_goes g (ranking_order r) budget w s (IsOver r) Fits (λ i. (steps_go (Equation i), never_returns (Equation i))) ready.equations_normal) (λ q.
       first_is (EntryHolds g budget w s) (factor_next g budget w s) _ _ (factor_goes g budget w s) (λ f.
       first_is (EntryHolds g budget w s) (split_next g budget w s) _ _ (split_goes g budget w s ready.separants) (λ p.
-      first_is (EntryHolds g budget w s) (weed_next g budget w s) [] (pairs_next g budget s w [] (critical_pairs g.symbols s)) (weed_goes g order budget w s Fine (λ i. (ready.steps_go (Inequation i), ready.never_returns (Inequation i))) ready.inequations_fine) (λ v.
-      let rest = ready.at_rest (not_closed g s c) d r f p v in
-      pairs_goes g budget w s Fine (ready.steps_go Free) rest (admitting rest) low))))))
+      first_is (EntryHolds g budget w s) (weed_next g budget w s) [] (pairs_next g budget s w [] (critical_pairs g.symbols s)) (weed_goes g (ranking_order r) budget w s (IsOver r) Fits (λ i. (steps_go (Inequation i), never_returns (Inequation i))) ready.inequations_normal) (λ v.
+      let rest = ready.at_rest (not_closed g s c) d q f p v in
+      pairs_goes g budget w s (IsOver r) Fits (steps_go Free) rest delta_fine (chain_admits r few s over rest.is_chain) low))))))
 
 -- ---- what stands below
 module _ (g : Setting) (budget w : ℕ) (s : State) (FineState : State → Type 0) (kept : (action : Action) (d : Done) → perform g s action ≡ Ok d → AllOf FineState d.after) (low : w ≤ budget) where
@@ -125,25 +161,14 @@ module _ (g : Setting) (budget w : ℕ) (s : State) (FineState : State → Type 
       by_answer (Ok b) e h = let k = below_is (next_entry g budget w s).line (next_entry g budget w s).evidence b e in record { below = b; holds = e; affordable = k.0; fine = k.2; few = k.1 }
       by_answer (Err r) e h = cc
 
--- ---- over a ranking
--- all equations are over the ranking
-all_fine : (Fine : Polynomial Symbol → Type 0) (ps : Polynomials) → AllOf (IsFine Fine) ps → AllOf Fine ps
-all_fine Fine [] h = tt
-all_fine Fine (p ∷ ps) h = ((h.0).0, all_fine Fine ps h.1)
-
--- the line that is next holds where the state is ready
-pub ready_holds : (r : RankingValue) → r.signature.independents ≤ 4 → (budget w : ℕ) (s : State) → w ≤ budget → IsReady (setting_of r) budget w (IsOver r) s → EntryHolds (setting_of r) budget w s (next_entry (setting_of r) budget w s)
-ready_holds r few budget w s low ready =
-    next_holds (setting_of r) (ranking_order r) budget w (IsOver r) s ready low (λ rest. chain_admits r few s (all_fine (IsOver r) s.equations ready.equations_fine) rest.is_chain)
-
 -- ---- the worked tree
 -- the worked entries are there, where each state is ready and stays so
 pub entries_there : (r : RankingValue) → r.signature.independents ≤ 4 → (budget : ℕ) (FineState : State → Type 0)
-    → ((w : ℕ) (s : State) → w ≤ budget → FineState s → IsReady (setting_of r) budget w (IsOver r) s)
+    → ((w : ℕ) (s : State) → w ≤ budget → FineState s → IsReady r budget w s)
     → ((s : State) (action : Action) (d : Done) → FineState s → perform (setting_of r) s action ≡ Ok d → AllOf FineState d.after)
     → (s : State) → FineState s → IsWorkedFrom (setting_of r) budget 0 (s ∷ []) (worked_from (setting_of r) budget (2 * budget + 1) 0 (s ∷ []))
 entries_there r few budget FineState ready kept s h =
-    worked_is_there (setting_of r) budget FineState (λ w t low k. goes_from (setting_of r) budget w t FineState (λ action d e. kept t action d k e) low (ready_holds r few budget w t low (ready w t low k)))
+    worked_is_there (setting_of r) budget FineState (λ w t low k. goes_from (setting_of r) budget w t FineState (λ action d e. kept t action d k e) low (next_holds r few budget w t (ready w t low k) low))
     (2 * budget + 1) 0 budget (s ∷ []) (omega arith) (omega arith) (h, tt)
 
 -- ---- lines and entries
@@ -199,7 +224,7 @@ reached_after g system s action d h e =
 
 -- ---- the laws
 -- a worked tree is there, where every state that is reached is ready
-tree_there : (r : RankingValue) → r.signature.independents ≤ 4 → (budget : ℕ) (system : System) → ((w : ℕ) (s : State) → w ≤ budget → IsReached (setting_of r) system s → IsReady (setting_of r) budget w (IsOver r) s)
+tree_there : (r : RankingValue) → r.signature.independents ≤ 4 → (budget : ℕ) (system : System) → ((w : ℕ) (s : State) → w ≤ budget → IsReached (setting_of r) system s → IsReady r budget w s)
     → IsWorked (setting_of r) system (record { budget = budget; lines = worked_lines (setting_of r) budget (2 * budget + 1) system })
 tree_there r few budget system ready =
     let root = root_of (symbols_under r) system in
@@ -208,4 +233,4 @@ tree_there r few budget system ready =
 
 -- the laws of the order of work
 pub order_laws : (r : RankingValue) → r.signature.independents ≤ 4 → (budget : ℕ) → OrderLaws r budget
-order_laws r few budget = record { holds = ready_holds r few budget; is_there = tree_there r few budget }
+order_laws r few budget = record { holds = λ w s low ready. next_holds r few budget w s ready low; is_there = tree_there r few budget }

@@ -1,12 +1,11 @@
 -- Steps, runs and Delta-polynomials keep polynomials over a ranking.
-use Rattle.std.specs.Prelude.{⊤}
-use Rattle.std.proofs.Common.{◌≡◌, ◌≢◌, ℕ, zero, suc, ◌+◌, ◌-◌, ◌≤◌, ◌<◌, ◌==◌, nat_le, min, max, Bool, true, false, ◌&&◌, cond, List, [], ◌∷◌, ◌++◌, length, take, pos, refl, sym, ap, ◌∙◌, subst, Ok, Option, Some, None, inl, inr, arith}
+use Rattle.std.proofs.Common.{◌≡◌, ℕ, zero, suc, ◌+◌, ◌-◌, ◌≤◌, ◌<◌, ◌==◌, max, Bool, true, false, ◌&&◌, cond, List, [], ◌∷◌, length, take, pos, refl, sym, ap, ◌∙◌, subst, Ok, Some, None, inl, inr, arith}
 use Rattle.std.proofs.lemmas.Bool.{leb-true}
 use Rattle.std.proofs.lemmas.List.{length-take}
 use Rattle.std.specs.declared.cmp.Ordering.TheVariants.{Less, Equal, Greater}
 use Rattle.std.specs.Ordering.{match_ordering}
 use Rattle.dz_algebra.specs.Monomial.{exponent}
-use Rattle.dz_algebra.specs.Polynomial.{Polynomial, Contributions, PolynomialIn, collect, negated, pairs}
+use Rattle.dz_algebra.specs.Polynomial.{Polynomial, Contributions, PolynomialIn, collect, negated}
 use Rattle.dz_algebra.specs.Derivation.{RateIn, constant, unit, rate_by}
 use Rattle.dz_algebra.specs.Norm.{content, divided, gcd, norm}
 use Rattle.dz_algebra.specs.Parts.{coefficient_of, degree, leader}
@@ -25,7 +24,7 @@ use Rattle.dz_diff.specs.Lists.{AllOf}
 use Rattle.dz_diff.specs.Operators.{is_proper, divides, exponent_differences, quotient}
 use Rattle.dz_diff.specs.Operations.{iterated_answer, derivations_answer, operator_answer, setting_of, times_power}
 use Rattle.dz_diff.specs.Over.{IsOver}
-use Rattle.dz_diff.specs.State.{State, at_place}
+use Rattle.dz_diff.specs.State.{State}
 use Rattle.dz_diff.proofs.Answers.{bind_ok}
 use Rattle.dz_diff.proofs.Goodness.{good_norm}
 use Rattle.dz_diff.proofs.LeaderDerivations.{IsRegular}
@@ -136,7 +135,7 @@ module _ (r : RankingValue) (few : r.signature.independents ≤ 4) where
       record {
         canonical = (good_step r s role f st x e (λ j q h. good_over r q (taken (IsOver r) j q s.equations h over).0) (good_over r f of_f)).0;
         belongs = parts_belong f k.derivative k.times v (degree (ranking_cmp r) v f) (step_degree (symbols_under r) st.operator k.top k.divisor) x k.parts (degree_belongs v f occurs_in_f of_f.belongs) of_f.belongs
-        (operator_belongs st.operator k.divisor k.derivative k.derivative_is of_q.belongs) (multiplier_belongs (multiplier_of st.operator) k.top k.divisor k.times k.times_is of_q.belongs);
+            (operator_belongs st.operator k.divisor k.derivative k.derivative_is of_q.belongs) (multiplier_belongs (multiplier_of st.operator) k.top k.divisor k.times k.times_is of_q.belongs);
       }
     where
       degree_one : (t : Operator) (l : Symbol) (q : Polynomial Symbol) → 1 ≤ degree (ranking_cmp r) l q → 1 ≤ step_degree (symbols_under r) t l q
@@ -154,9 +153,9 @@ module _ (r : RankingValue) (few : r.signature.independents ≤ 4) where
       belong = elim (delta_parts r p q d e) [
         | inl h ↦ subst AllBelong h tt
         | inr k ↦
-          subst AllBelong k.end_is (in_norm (ranking_cmp r) Belongs k.rest (difference_belongs k.left k.right k.rest k.rest_is
-          (product_belongs k.second_separant k.first k.left k.left_is (separant_belongs k.second_leader q k.second_separant k.second_separant_is of_q.belongs) (operator_belongs k.first_operator p k.first k.first_is of_p.belongs))
-          (product_belongs k.first_separant k.second k.right k.right_is (separant_belongs k.first_leader p k.first_separant k.first_separant_is of_p.belongs) (operator_belongs k.second_operator q k.second k.second_is of_q.belongs))))
+            subst AllBelong k.end_is (in_norm (ranking_cmp r) Belongs k.rest (difference_belongs k.left k.right k.rest k.rest_is
+            (product_belongs k.second_separant k.first k.left k.left_is (separant_belongs k.second_leader q k.second_separant k.second_separant_is of_q.belongs) (operator_belongs k.first_operator p k.first k.first_is of_p.belongs))
+            (product_belongs k.first_separant k.second k.right k.right_is (separant_belongs k.first_leader p k.first_separant k.first_separant_is of_p.belongs) (operator_belongs k.second_operator q k.second k.second_is of_q.belongs))))
       ]
 
   -- ---- the operators of full runs

@@ -31,9 +31,9 @@ use Rattle.dz_tree.specs.Lines.{act, chain, spent_pairs, Entry}
 use Rattle.dz_tree.specs.Reasons.{open_weight, open_weights, weighs_more, is_increasing, is_empty, reason_holds}
 use Rattle.dz_tree.specs.Walk.{Below, ended, told_at_line, entered}
 use Rattle.dz_engine.specs.Order.{line_alone, open_line, affordable, with_evidence, evidence, after_course, delta_at, after_delta, pairs_next}
-use Rattle.dz_engine.specs.Ready.{StepsGo, AtRest, places_of, EntryHolds}
+use Rattle.dz_engine.specs.Ready.{AtRest, places_of, EntryHolds}
 use Rattle.dz_engine.proofs.EasyRules.{and_is, needs_is, given_is, holds_needs, open_holds}
-use Rattle.dz_engine.proofs.RunRules.{full_run_stopped, full_run_passed, full_run_low, is_not}
+use Rattle.dz_engine.proofs.RunRules.{StepsGo, full_run_stopped, full_run_passed, full_run_low, is_not}
 
 -- ---- critical pairs rise
 -- a pair of places is before another
@@ -196,7 +196,8 @@ module _ (g : Setting) (s : State) where
           ap (λ (q : Result ℕ (ℕ × Fault)). q >>= (λ m. Ok (n + m))) (ih k j) ∙ ap (λ (z : ℕ). Ok z) (omega (arith, l))
 
 -- ---- the pairs
-module _ (g : Setting) (budget w0 : ℕ) (s : State) (Fine : Polynomial Symbol → Type 0) (go : StepsGo g s Free Fine) (rest : AtRest g s Fine)
+module _ (g : Setting) (budget w0 : ℕ) (s : State) (Fine : Polynomial Symbol → Type 0) (Fits : Step → Type 0) (go : StepsGo g s Free Fine Fits) (rest : AtRest g s)
+    (delta_fine : (i j : ℕ) (p q d : Polynomial Symbol) → at_place i s.equations ≡ Some p → at_place j s.equations ≡ Some q → delta_answer g p q ≡ Ok d → Fine (norm d))
     (admitting : (f : Polynomial Symbol) → is_member g.symbols f s.equations ≡ true → admits g s Free f ≡ true) where
   -- the evidence so far and the weight with it
   pub record SoFar (w : ℕ) (es : List Evidence) (ps : List (ℕ × ℕ)) : Type 0 where
@@ -334,15 +335,16 @@ module _ (g : Setting) (budget w0 : ℕ) (s : State) (Fine : Polynomial Symbol �
           → ((w' : ℕ) (es' : List Evidence) → SoFar w' es' ps → EntryHolds g budget w0 s (next w' es'))
           → EntryHolds g budget w0 s (after_course g budget s (w + 1 + length d) es (i, j) c next)
       by_course d (stopped steps stop) e low f ih =
-          let fine = rest.delta_fine i j n.first n.second d n.first_is n.second_is e in
-          let r = full_run_stopped g s Free (budget - (w + 1 + length d)) Fine go d steps stop fine f in
+          let fine = delta_fine i j n.first n.second d n.first_is n.second_is e in
+          let r = full_run_stopped g s Free (budget - (w + 1 + length d)) Fine Fits go d steps stop fine f in
           open_holds g budget w0 s (add i j steps) (fault_of stop) (run_refused i j n steps d (length steps, stop) e r.0) r.1
       by_course d (passed steps) e low f ih =
-          let r = full_run_passed g s Free (budget - (w + 1 + length d)) Fine go d steps f in
+          let fine = delta_fine i j n.first n.second d n.first_is n.second_is e in
+          let r = full_run_passed g s Free (budget - (w + 1 + length d)) Fine Fits go d steps fine f in
           spent_holds w (1 + length d + (r.2).count) es (evidence (i, j) steps) ps h (open_weight_is i j n steps d r.2 e r.4) (omega (arith, low, r.5))
       by_course d (finished steps end count) e low f ih =
           let r = full_run_is_run g s Free (budget - (w + 1 + length d)) d steps end count f in
-          by_zero d steps end count (is_zero end) e r.0 r.1 (omega (arith, low, full_run_low g s Free (budget - (w + 1 + length d)) Fine go d steps end count f)) refl ih
+          by_zero d steps end count (is_zero end) e r.0 r.1 (omega (arith, low, full_run_low g s Free (budget - (w + 1 + length d)) Fine Fits go d steps end count f)) refl ih
 
       by_test : (d : Polynomial Symbol) (b : Bool) → delta_answer g n.first n.second ≡ Ok d → nat_lt budget (w + 1 + length d) ≡ b
           → ((w' : ℕ) (es' : List Evidence) → SoFar w' es' ps → EntryHolds g budget w0 s (next w' es'))

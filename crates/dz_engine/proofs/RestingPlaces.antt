@@ -1,14 +1,14 @@
 -- Where a full run finds no step there is none; and where the split finds nothing, multipliers stand in the state.
 use Rattle.std.specs.Prelude.{⊤, is_some}
 use Rattle.std.specs.List.{fold, list_all}
-use Rattle.std.proofs.Common.{◌≡◌, ◌≢◌, ℕ, zero, suc, ◌+◌, ◌-◌, ◌≤◌, ◌==◌, nat_le, max, sum, Bool, true, false, not, ◌&&◌, ◌||◌, cond, List, [], ◌∷◌, length, refl, sym, ap, ap₂, ◌∙◌, subst, Result, Ok, Err, Option, Some, None, ◌⊎◌, inl, inr, arith}
+use Rattle.std.proofs.Common.{◌≡◌, ◌≢◌, ℕ, zero, suc, ◌+◌, ◌-◌, ◌≤◌, nat_le, max, sum, Bool, true, false, not, ◌&&◌, ◌||◌, cond, List, [], ◌∷◌, length, refl, sym, ap, ap₂, ◌∙◌, subst, Result, Ok, Err, Option, Some, None, ◌⊎◌, inl, inr, arith}
 use Rattle.std.proofs.lemmas.Bool.{eq-eqb, leb-true, le-leb}
 use Rattle.std.specs.declared.cmp.Ordering.{Ordering}
 use Rattle.std.specs.declared.cmp.Ordering.TheVariants.{Less, Equal, Greater}
 use Rattle.std.specs.Ordering.{match_ordering}
 use Rattle.dz_algebra.specs.Monomial.{Monomial, exponent}
 use Rattle.dz_algebra.specs.Order.{IsOrder}
-use Rattle.dz_algebra.specs.Polynomial.{Polynomial, PolynomialIn}
+use Rattle.dz_algebra.specs.Polynomial.{Polynomial}
 use Rattle.dz_algebra.specs.Norm.{norm}
 use Rattle.dz_algebra.specs.Parts.{degree, is_ground, leader}
 use Rattle.dz_algebra.specs.Size.{Refusal, with_symbol}

@@ -27,7 +27,7 @@ use Rattle.dz_tree.specs.Fault.{Fault, rule, fault_of, run_fault}
 use Rattle.dz_tree.specs.Moves.{Action, steps_of, reduce, weed, moved, with_equations, with_inequations, reduced, weeded, perform}
 use Rattle.dz_tree.specs.Lines.{Entry}
 use Rattle.dz_engine.specs.Order.{plain, by_course, reduce_next, weed_next}
-use Rattle.dz_engine.specs.Ready.{StepsGo, NeverReturns, IsFine, EntryHolds}
+use Rattle.dz_engine.specs.Ready.{EntryHolds}
 use Rattle.dz_engine.proofs.EasyRules.{IsRefusal, Answers, answers_settled, answers_given, answers_needs, found, open_holds, plain_goes}
 
 -- the fault of a step that an operation refuses is a refusal
@@ -36,7 +36,18 @@ stop_refuses q (refused r) e h = tt
 stop_refuses q no_step e h = absurd (h e)
 
 -- ---- full runs that are cut or stopped
-module _ (g : Setting) (s : State) (role : Role) (budget : ℕ) (Fine : Polynomial Symbol → Type 0) (go : StepsGo g s role Fine) where
+module _ (g : Setting) (s : State) (role : Role) (Fine : Polynomial Symbol → Type 0) (Fits : Step → Type 0) where
+  -- steps in a role keep what is known of polynomials, and what a full run takes next is a step with a known operator
+  pub record StepsGo : Type 0 where
+    pub keeps : (f r : Polynomial Symbol) (st : Step) → Fine f → step_in g s role f st ≡ Ok r → Fine r
+    pub next_is_step : (f : Polynomial Symbol) (st : Step) → Fine f → next_step g s role f ≡ Some st → step_in g s role f st ≢ Err no_step
+    pub fits : (f : Polynomial Symbol) (st : Step) → Fine f → next_step g s role f ≡ Some st → Fits st
+
+  -- a run of some steps never ends where it began
+  abbrev pub NeverReturns : Type 0
+  NeverReturns = (f : Polynomial Symbol) (st : Step) (steps : List Step) (x : Ran) → Fine f → AllOf Fits (st ∷ steps) → run g s role f (st ∷ steps) ≡ Ok x → x.end ≢ norm f
+
+module _ (g : Setting) (s : State) (role : Role) (budget : ℕ) (Fine : Polynomial Symbol → Type 0) (Fits : Step → Type 0) (go : StepsGo g s role Fine Fits) where
   -- a run whose last step is refused
   record IsStopped (f : Polynomial Symbol) (count n : ℕ) (done steps : List Step) (stop : Stop) : Type 0 where
     more : List Step
@@ -54,6 +65,7 @@ module _ (g : Setting) (s : State) (role : Role) (budget : ℕ) (Fine : Polynomi
     ran : Ran
     is_run : run_from g s role n f count (first ∷ rest) ≡ Ok ran
     is_past : budget < (ran).count
+    fits : AllOf Fits (first ∷ rest)
 
   -- what a full run that is stopped did, from some point on
   stopped_is : (rounds : ℕ) (done : List Step) (f : Polynomial Symbol) (count : ℕ) (steps : List Step) (stop : Stop) (n : ℕ) → Fine f
@@ -105,14 +117,14 @@ module _ (g : Setting) (s : State) (role : Role) (budget : ℕ) (Fine : Polynomi
       by_step (Some st) h ih e = by_answer st (step_in g s role f st) h refl ih e
 
   -- what a full run that is cut did
-  past_is : (rounds : ℕ) (done : List Step) (f : Polynomial Symbol) (count : ℕ) (steps : List Step) (n : ℕ) → count ≤ budget → budget < rounds + count
+  past_is : (rounds : ℕ) (done : List Step) (f : Polynomial Symbol) (count : ℕ) (steps : List Step) (n : ℕ) → Fine f → count ≤ budget → budget < rounds + count
       → full_run_from g s role budget rounds done f count ≡ passed steps → IsPast f count n done steps
-  past_is zero done f count steps n low enough e = absurd (omega (arith, low, enough))
-  past_is (suc rounds) done f count steps n low enough e = by_step (next_step g s role f) (λ st r k h z i. past_is rounds (done ++ st ∷ []) r k steps (suc n) h z i) e
+  past_is zero done f count steps n fine low enough e = absurd (omega (arith, low, enough))
+  past_is (suc rounds) done f count steps n fine low enough e = by_step (next_step g s role f) refl (λ st r k y h z i. past_is rounds (done ++ st ∷ []) r k steps (suc n) y h z i) e
     where
-      by_test : (b : Bool) (st : Step) (r : Polynomial Symbol) → nat_lt budget (count + 1 + length r) ≡ b → step_in g s role f st ≡ Ok r → ((st : Step) (r : Polynomial Symbol) (k : ℕ) → k ≤ budget → budget < rounds + k → full_run_from g s role budget rounds (done ++ st ∷ []) r k ≡ passed steps → IsPast r k (suc n) (done ++ st ∷ []) steps)
+      by_test : (b : Bool) (st : Step) (r : Polynomial Symbol) → next_step g s role f ≡ Some st → nat_lt budget (count + 1 + length r) ≡ b → step_in g s role f st ≡ Ok r → ((st : Step) (r : Polynomial Symbol) (k : ℕ) → Fine r → k ≤ budget → budget < rounds + k → full_run_from g s role budget rounds (done ++ st ∷ []) r k ≡ passed steps → IsPast r k (suc n) (done ++ st ∷ []) steps)
           → cond b (passed (done ++ st ∷ [])) (full_run_from g s role budget rounds (done ++ st ∷ []) r (count + 1 + length r)) ≡ passed steps → IsPast f count n done steps
-      by_test true st r t i ih e =
+      by_test true st r m t i ih e =
           let a : done ++ st ∷ [] ≡ steps = cc in
           record {
             first = st;
@@ -121,9 +133,10 @@ module _ (g : Setting) (s : State) (role : Role) (budget : ℕ) (Fine : Polynomi
             ran = record { end = r; count = count + 1 + length r };
             is_run = ap (λ q. numbered n q >>= (λ r. run_from g s role (suc n) r (count + 1 + length r) [])) i;
             is_past = ltb-true budget (count + 1 + length r) t;
+            fits = (go.fits f st fine m, tt);
           }
-      by_test false st r t i ih e =
-          let k = ih st r (count + 1 + length r) (omega (arith, ltb-false budget (count + 1 + length r) t)) (omega (arith, enough)) e in
+      by_test false st r m t i ih e =
+          let k = ih st r (count + 1 + length r) (go.keeps f r st fine i) (omega (arith, ltb-false budget (count + 1 + length r) t)) (omega (arith, enough)) e in
           record {
             first = st;
             rest = k.first ∷ k.rest;
@@ -131,17 +144,18 @@ module _ (g : Setting) (s : State) (role : Role) (budget : ℕ) (Fine : Polynomi
             ran = k.ran;
             is_run = ap (λ q. numbered n q >>= (λ r. run_from g s role (suc n) r (count + 1 + length r) (k.first ∷ k.rest))) i ∙ k.is_run;
             is_past = k.is_past;
+            fits = (go.fits f st fine m, k.fits);
           }
 
-      by_answer : (st : Step) (q : Result (Polynomial Symbol) Stop) → step_in g s role f st ≡ q → ((st : Step) (r : Polynomial Symbol) (k : ℕ) → k ≤ budget → budget < rounds + k → full_run_from g s role budget rounds (done ++ st ∷ []) r k ≡ passed steps → IsPast r k (suc n) (done ++ st ∷ []) steps)
+      by_answer : (st : Step) (q : Result (Polynomial Symbol) Stop) → next_step g s role f ≡ Some st → step_in g s role f st ≡ q → ((st : Step) (r : Polynomial Symbol) (k : ℕ) → Fine r → k ≤ budget → budget < rounds + k → full_run_from g s role budget rounds (done ++ st ∷ []) r k ≡ passed steps → IsPast r k (suc n) (done ++ st ∷ []) steps)
           → (elim q as (λ _. Course) [
             | Err stop ↦ stopped (done ++ st ∷ []) stop
             | Ok r ↦ cond (nat_lt budget (count + 1 + length r)) (passed (done ++ st ∷ [])) (full_run_from g s role budget rounds (done ++ st ∷ []) r (count + 1 + length r))
           ]) ≡ passed steps → IsPast f count n done steps
-      by_answer st (Err other) i ih e = cc
-      by_answer st (Ok r) i ih e = by_test (nat_lt budget (count + 1 + length r)) st r refl i ih e
+      by_answer st (Err other) m i ih e = cc
+      by_answer st (Ok r) m i ih e = by_test (nat_lt budget (count + 1 + length r)) st r m refl i ih e
 
-      by_step : (o : Option Step) → ((st : Step) (r : Polynomial Symbol) (k : ℕ) → k ≤ budget → budget < rounds + k → full_run_from g s role budget rounds (done ++ st ∷ []) r k ≡ passed steps → IsPast r k (suc n) (done ++ st ∷ []) steps)
+      by_step : (o : Option Step) → next_step g s role f ≡ o → ((st : Step) (r : Polynomial Symbol) (k : ℕ) → Fine r → k ≤ budget → budget < rounds + k → full_run_from g s role budget rounds (done ++ st ∷ []) r k ≡ passed steps → IsPast r k (suc n) (done ++ st ∷ []) steps)
           → (elim o as (λ _. Course) [
             | None ↦ finished done f count
             | Some st ↦ elim (step_in g s role f st) as (λ _. Course) [
@@ -149,8 +163,8 @@ module _ (g : Setting) (s : State) (role : Role) (budget : ℕ) (Fine : Polynomi
               | Ok r ↦ cond (nat_lt budget (count + 1 + length r)) (passed (done ++ st ∷ [])) (full_run_from g s role budget rounds (done ++ st ∷ []) r (count + 1 + length r))
             ]
           ]) ≡ passed steps → IsPast f count n done steps
-      by_step None ih e = cc
-      by_step (Some st) ih e = by_answer st (step_in g s role f st) refl ih e
+      by_step None m ih e = cc
+      by_step (Some st) m ih e = by_answer st (step_in g s role f st) m refl ih e
 
   -- the count of a full run that comes to its end
   low_is : (rounds : ℕ) (done : List Step) (f : Polynomial Symbol) (count : ℕ) (steps : List Step) (end : Polynomial Symbol) (c : ℕ) → count ≤ budget → full_run_from g s role budget rounds done f count ≡ finished steps end c → c ≤ budget
@@ -193,12 +207,12 @@ module _ (g : Setting) (s : State) (role : Role) (budget : ℕ) (Fine : Polynomi
       (ap (run_from g s role 1 (norm f) 0) k.steps_are ∙ k.is_stopped ∙ ap (λ n. Err (n, stop)) a, k.is_refusal)
 
   -- a full run that is cut is a run of some steps past the budget
-  pub full_run_passed : (f : Polynomial Symbol) (steps : List Step) → full_run g s role budget f ≡ passed steps
-      → (st : Step) × (more : List Step) × (x : Ran) × (steps ≡ st ∷ more) × (run g s role f steps ≡ Ok x) × (budget < x.count)
+  pub full_run_passed : (f : Polynomial Symbol) (steps : List Step) → Fine (norm f) → full_run g s role budget f ≡ passed steps
+      → (st : Step) × (more : List Step) × (x : Ran) × (steps ≡ st ∷ more) × (run g s role f steps ≡ Ok x) × (budget < x.count) × AllOf Fits (st ∷ more)
   unfolding full_run
-  full_run_passed f steps e =
-      let k = past_is (suc budget) [] (norm f) 0 steps 1 (omega arith) (omega arith) e in
-      (k.first, k.rest, k.ran, k.steps_are, ap (run_from g s role 1 (norm f) 0) k.steps_are ∙ k.is_run, k.is_past)
+  full_run_passed f steps fine e =
+      let k = past_is (suc budget) [] (norm f) 0 steps 1 fine (omega arith) (omega arith) e in
+      (k.first, k.rest, k.ran, k.steps_are, ap (run_from g s role 1 (norm f) 0) k.steps_are ∙ k.is_run, k.is_past, k.fits)
 
 -- ---- a place that changes
 module _ (g : Symbols Symbol) where
@@ -238,7 +252,7 @@ pub answers_run : {A B : Type 0} (n : ℕ) (q : Result A (ℕ × Stop)) (f : A �
 answers_run n q f x e h = subst (λ r. Answers n (told_as run_fault r >>= f)) (sym e) h
 
 -- ---- reduce and weed
-module _ (g : Setting) (order : IsOrder g.symbols.cmp) (budget w : ℕ) (s : State) (Fine : Polynomial Symbol → Type 0) where
+module _ (g : Setting) (order : IsOrder g.symbols.cmp) (budget w : ℕ) (s : State) (Fine : Polynomial Symbol → Type 0) (Fits : Step → Type 0) where
   -- a run from an equation to another end may be put in its place
   reduce_answers : (i : ℕ) (p : Polynomial Symbol) (steps : List Step) (x : Ran) → at_place i s.equations ≡ Some p → run g s (Equation i) p steps ≡ Ok x → (x.end ≡ p → ⊥) → Answers (length steps) (perform g s (reduce i steps))
   unfolding reduced
@@ -276,7 +290,7 @@ module _ (g : Setting) (order : IsOrder g.symbols.cmp) (budget w : ℕ) (s : Sta
       (answers : (steps : List Step) (x : Ran) → run g s role p steps ≡ Ok x → (x.end ≡ p → ⊥) → Answers (length steps) (perform g s (action steps)))
       (refuses : (steps : List Step) (e : ℕ × Stop) → run g s role p steps ≡ Err e → perform g s (action steps) ≡ Err (run_fault e))
       (names : (steps : List Step) → steps_of (action steps) ≡ steps) where
-    course_goes : (limit : ℕ) → StepsGo g s role Fine → NeverReturns g s role Fine → Fine p → norm p ≡ p → admits g s role p ≡ true → EntryHolds g budget w s (by_course g budget w s action (full_run g s role limit p))
+    course_goes : (limit : ℕ) → StepsGo g s role Fine Fits → NeverReturns g s role Fine Fits → Fine p → norm p ≡ p → admits g s role p ≡ true → EntryHolds g budget w s (by_course g budget w s action (full_run g s role limit p))
     course_goes limit go never fine normal h = by_result (full_run g s role limit p) refl
       where
         moves : (o : Option Step) → o ≡ None → is_some o ≡ true → ⊥
@@ -294,32 +308,36 @@ module _ (g : Setting) (order : IsOrder g.symbols.cmp) (budget w : ℕ) (s : Sta
             let r = full_run_is_run g s role limit p steps end count e in
             holds_plain steps (record { end = end; count = count }) r.0 (λ z. moves (next_step g s role p) (ap (next_step g s role) (sym z) ∙ r.1) h)
         by_result (stopped steps stop) e =
-            let r = full_run_stopped g s role limit Fine go p steps stop fine' e in
+            let r = full_run_stopped g s role limit Fine Fits go p steps stop fine' e in
             open_holds g budget w s (action steps) (fault_of stop) (refuses steps (length steps, stop) r.0 ∙ ap (λ k. Err (length k, fault_of stop)) (sym (names steps))) r.1
         by_result (passed steps) e =
-            let r = full_run_passed g s role limit Fine go p steps e in
-            holds_plain steps r.2 r.4 (λ z. never p r.0 r.1 r.2 fine' (ap (run g s role p) (sym r.3) ∙ r.4) (z ∙ sym normal))
+            let r = full_run_passed g s role limit Fine Fits go p steps fine' e in
+            holds_plain steps r.2 r.4 (λ z. never p r.0 r.1 r.2 fine r.6 (ap (run g s role p) (sym r.3) ∙ r.4) (z ∙ sym normal))
+
+  -- normalised, and as steps need it
+  abbrev pub IsFine : Polynomial Symbol → Type 0
+  IsFine p = Fine p × (norm p ≡ p)
 
   -- the line of the rule that reduces an equation holds
-  pub reduce_goes : ((i : ℕ) → StepsGo g s (Equation i) Fine × NeverReturns g s (Equation i) Fine) → AllOf (IsFine Fine) s.equations → (e : Entry) → reduce_next g budget w s ≡ Some e → EntryHolds g budget w s e
+  pub reduce_goes : ((i : ℕ) → StepsGo g s (Equation i) Fine Fits × NeverReturns g s (Equation i) Fine Fits) → AllOf IsFine s.equations → (e : Entry) → reduce_next g budget w s ≡ Some e → EntryHolds g budget w s e
   reduce_goes go fine e h = let r = found _ e s.equations h in by_test r.place r.member r.is_there (admits g s (Equation r.place) r.member) refl r.names
     where
       by_test : (i : ℕ) (p : Polynomial Symbol) → at_place i s.equations ≡ Some p → (b : Bool) → admits g s (Equation i) p ≡ b
           → cond b (Some (by_course g budget w s (reduce i) (full_run g s (Equation i) (budget - (w + 1)) p))) None ≡ Some e → EntryHolds g budget w s e
       by_test i p a true f h =
           let k : by_course g budget w s (reduce i) (full_run g s (Equation i) (budget - (w + 1)) p) ≡ e = cc in
-          let fine' = (taken (IsFine Fine) i p s.equations a fine).0 in
+          let fine' = (taken IsFine i p s.equations a fine).0 in
           subst (EntryHolds g budget w s) k (course_goes (Equation i) (reduce i) p (λ steps x. reduce_answers i p steps x a) (λ steps x. reduce_refused i p steps x a) (λ steps. refl) (budget - (w + 1)) (go i).0 (go i).1 fine'.0 fine'.1 f)
       by_test i p a false f h = cc
 
   -- the line of the rule that weeds out an inequation holds
-  pub weed_goes : ((j : ℕ) → StepsGo g s (Inequation j) Fine × NeverReturns g s (Inequation j) Fine) → AllOf (IsFine Fine) s.inequations → (e : Entry) → weed_next g budget w s ≡ Some e → EntryHolds g budget w s e
+  pub weed_goes : ((j : ℕ) → StepsGo g s (Inequation j) Fine Fits × NeverReturns g s (Inequation j) Fine Fits) → AllOf IsFine s.inequations → (e : Entry) → weed_next g budget w s ≡ Some e → EntryHolds g budget w s e
   weed_goes go fine e h = let r = found _ e s.inequations h in by_test r.place r.member r.is_there (admits g s (Inequation r.place) r.member) refl r.names
     where
       by_test : (j : ℕ) (p : Polynomial Symbol) → at_place j s.inequations ≡ Some p → (b : Bool) → admits g s (Inequation j) p ≡ b
           → cond b (Some (by_course g budget w s (weed j) (full_run g s (Inequation j) (budget - (w + 1)) p))) None ≡ Some e → EntryHolds g budget w s e
       by_test j p a true f h =
           let k : by_course g budget w s (weed j) (full_run g s (Inequation j) (budget - (w + 1)) p) ≡ e = cc in
-          let fine' = (taken (IsFine Fine) j p s.inequations a fine).0 in
+          let fine' = (taken IsFine j p s.inequations a fine).0 in
           subst (EntryHolds g budget w s) k (course_goes (Inequation j) (weed j) p (λ steps x. weed_answers j p steps x a) (λ steps x. weed_refused j p steps x a) (λ steps. refl) (budget - (w + 1)) (go j).0 (go j).1 fine'.0 fine'.1 f)
       by_test j p a false f h = cc
