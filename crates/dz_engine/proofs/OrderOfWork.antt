@@ -9,7 +9,7 @@ use Rattle.dz_diff.specs.Outcome.{◌>>=◌, needs, numbered, told_as}
 use Rattle.dz_diff.specs.Lists.{AllOf, SomeOf}
 use Rattle.dz_poly.proofs.SymbolLaws.{ranking_order}
 use Rattle.dz_diff.specs.Operations.{Setting, setting_of}
-use Rattle.dz_diff.specs.Over.{IsOver}
+use Rattle.dz_diff.specs.Over.{IsOver, AreOver}
 use Rattle.dz_diff.specs.State.{State, at_place}
 use Rattle.dz_diff.specs.Root.{System, is_closed, root_of}
 use Rattle.dz_diff.proofs.Answers.{bind_ok, told_ok, then_ok, ok_same}
@@ -39,6 +39,7 @@ use Rattle.dz_engine.specs.Laws.{OrderLaws}
 use Rattle.dz_engine.proofs.WorkedTrees.{Goes, worked_is_there}
 use Rattle.dz_engine.proofs.EasyRules.{closed_goes, divide_goes, factor_goes, split_goes}
 use Rattle.dz_engine.proofs.OverOperations.{step_over, next_fits, norm_over, delta_over}
+use Rattle.dz_engine.proofs.OverStates.{StateOver, perform_over, root_over}
 use Rattle.dz_engine.proofs.RestingPlaces.{chain_admits}
 use Rattle.dz_engine.proofs.RunRules.{StepsGo, NeverReturns, reduce_goes, weed_goes}
 use Rattle.dz_engine.proofs.PairRules.{pairs_goes}
@@ -57,7 +58,7 @@ not_closed g s e = by_test (is_closed g.symbols s) e
     by_test true e = cc
     by_test false e = refl
 
-module _ (r : RankingValue) (few : r.signature.independents ≤ 4) (budget w : ℕ) (s : State) (ready : IsReady r budget w s) (low : w ≤ budget) where
+module _ (r : RankingValue) (few : r.signature.independents ≤ 4) (budget w : ℕ) (s : State) (states : AreOver r s.equations s.inequations) (ready : IsReady r budget w s) (low : w ≤ budget) where
   abbrev g : Setting
   g = setting_of r
 
@@ -65,16 +66,20 @@ module _ (r : RankingValue) (few : r.signature.independents ≤ 4) (budget w : �
   abbrev Fits : Step → Type 0
   Fits st = IsOperatorOf r.signature.independents st.operator
 
-  all_over : (ps : Polynomials) → AllOf (IsNormal r) ps → AllOf (IsOver r) ps
-  all_over [] h = tt
-  all_over (p ∷ ps) h = ((h.0).0, all_over ps h.1)
-
+  -- all equations are over the ranking
   over : AllOf (IsOver r) s.equations
-  over = all_over s.equations ready.equations_normal
+  over = states.equations_over
 
+  -- over the ranking, and normalised
+  all_fine : (ps : Polynomials) → AllOf (IsOver r) ps → AllOf IsNormal ps → AllOf (λ p. IsOver r p × (norm p ≡ p)) ps
+  all_fine [] h k = tt
+  all_fine (p ∷ ps) h k = ((h.0, k.0), all_fine ps h.1 k.1)
+
+  -- the laws of reduction at the state
   laws : ReductionLaws r s
   laws = reduction_laws r s few over
 
+  -- steps keep polynomials over the ranking, and full runs take steps
   steps_go : (role : Role) → StepsGo g s role (IsOver r) Fits
   steps_go role = record {
     keeps = λ f x st h e. step_over r few s role f x st over h e;
@@ -82,6 +87,7 @@ module _ (r : RankingValue) (few : r.signature.independents ≤ 4) (budget w : �
     fits = λ f st h e. next_fits r few s role f st over h e;
   }
 
+  -- runs never return
   never_returns : (role : Role) → NeverReturns g s role (IsOver r) Fits
   never_returns role f st steps x h fits e = laws.never_returns role f st steps x h fits e
 
@@ -95,10 +101,10 @@ module _ (r : RankingValue) (few : r.signature.independents ≤ 4) (budget w : �
   next_holds =
       first_is (EntryHolds g budget w s) (closed_next g s) _ _ (closed_goes g budget w s) (λ c.
       first_is (EntryHolds g budget w s) (divide_next g budget w s) _ _ (divide_goes g budget w s) (λ d.
-      first_is (EntryHolds g budget w s) (reduce_next g budget w s) _ _ (reduce_goes g (ranking_order r) budget w s (IsOver r) Fits (λ i. (steps_go (Equation i), never_returns (Equation i))) ready.equations_normal) (λ q.
+      first_is (EntryHolds g budget w s) (reduce_next g budget w s) _ _ (reduce_goes g (ranking_order r) budget w s (IsOver r) Fits (λ i. (steps_go (Equation i), never_returns (Equation i))) (all_fine s.equations over ready.equations_normal)) (λ q.
       first_is (EntryHolds g budget w s) (factor_next g budget w s) _ _ (factor_goes g budget w s) (λ f.
       first_is (EntryHolds g budget w s) (split_next g budget w s) _ _ (split_goes g budget w s ready.separants) (λ p.
-      first_is (EntryHolds g budget w s) (weed_next g budget w s) [] (pairs_next g budget s w [] (critical_pairs g.symbols s)) (weed_goes g (ranking_order r) budget w s (IsOver r) Fits (λ i. (steps_go (Inequation i), never_returns (Inequation i))) ready.inequations_normal) (λ v.
+      first_is (EntryHolds g budget w s) (weed_next g budget w s) [] (pairs_next g budget s w [] (critical_pairs g.symbols s)) (weed_goes g (ranking_order r) budget w s (IsOver r) Fits (λ i. (steps_go (Inequation i), never_returns (Inequation i))) (all_fine s.inequations states.inequations_over ready.inequations_normal)) (λ v.
       let rest = ready.at_rest (not_closed g s c) d q f p v in
       pairs_goes g budget w s (IsOver r) Fits (steps_go Free) rest delta_fine (chain_admits r few s over rest.is_chain) low))))))
 
@@ -164,11 +170,11 @@ module _ (g : Setting) (budget w : ℕ) (s : State) (FineState : State → Type 
 -- ---- the worked tree
 -- the worked entries are there, where each state is ready and stays so
 pub entries_there : (r : RankingValue) → r.signature.independents ≤ 4 → (budget : ℕ) (FineState : State → Type 0)
-    → ((w : ℕ) (s : State) → w ≤ budget → FineState s → IsReady r budget w s)
+    → ((w : ℕ) (s : State) → w ≤ budget → FineState s → AreOver r s.equations s.inequations × IsReady r budget w s)
     → ((s : State) (action : Action) (d : Done) → FineState s → perform (setting_of r) s action ≡ Ok d → AllOf FineState d.after)
     → (s : State) → FineState s → IsWorkedFrom (setting_of r) budget 0 (s ∷ []) (worked_from (setting_of r) budget (2 * budget + 1) 0 (s ∷ []))
 entries_there r few budget FineState ready kept s h =
-    worked_is_there (setting_of r) budget FineState (λ w t low k. goes_from (setting_of r) budget w t FineState (λ action d e. kept t action d k e) low (next_holds r few budget w t (ready w t low k) low))
+    worked_is_there (setting_of r) budget FineState (λ w t low k. goes_from (setting_of r) budget w t FineState (λ action d e. kept t action d k e) low (next_holds r few budget w t (ready w t low k).0 (ready w t low k).1 low))
     (2 * budget + 1) 0 budget (s ∷ []) (omega arith) (omega arith) (h, tt)
 
 -- ---- lines and entries
@@ -217,6 +223,11 @@ all_give : {A : Type 0} (P Q : A → Type 0) → ((x : A) → P x → Q x) → (
 all_give P Q give [] h = tt
 all_give P Q give (x ∷ xs) h = (give x h.0, all_give P Q give xs h.1)
 
+-- two things of each member
+all_two : {A : Type 0} (P Q : A → Type 0) (xs : List A) → AllOf P xs → AllOf Q xs → AllOf (λ x. P x × Q x) xs
+all_two P Q [] h k = tt
+all_two P Q (x ∷ xs) h k = ((h.0, k.0), all_two P Q xs h.1 k.1)
+
 -- what an action leads to is reached
 reached_after : (g : Setting) (system : System) (s : State) (action : Action) (d : Done) → IsReached g system s → perform g s action ≡ Ok d → AllOf (IsReached g system) d.after
 reached_after g system s action d h e =
@@ -224,13 +235,14 @@ reached_after g system s action d h e =
 
 -- ---- the laws
 -- a worked tree is there, where every state that is reached is ready
-tree_there : (r : RankingValue) → r.signature.independents ≤ 4 → (budget : ℕ) (system : System) → ((w : ℕ) (s : State) → w ≤ budget → IsReached (setting_of r) system s → IsReady r budget w s)
+tree_there : (r : RankingValue) → r.signature.independents ≤ 4 → (budget : ℕ) (system : System) → AreOver r system.equations system.inequations → ((w : ℕ) (s : State) → w ≤ budget → IsReached (setting_of r) system s → IsReady r budget w s)
     → IsWorked (setting_of r) system (record { budget = budget; lines = worked_lines (setting_of r) budget (2 * budget + 1) system })
-tree_there r few budget system ready =
+tree_there r few budget system of_system ready =
     let root = root_of (symbols_under r) system in
-    let h = entries_there r few budget (IsReached (setting_of r) system) ready (λ s action d k e. reached_after (setting_of r) system s action d k e) root ([], refl) in
+    let h = entries_there r few budget (λ s. IsReached (setting_of r) system s × StateOver r few s) (λ w s low k. (k.1, ready w s low k.0))
+    (λ s action d k e. all_two (IsReached (setting_of r) system) (StateOver r few) d.after (reached_after (setting_of r) system s action d k.0 e) (perform_over r few s action d k.1 e)) root (([], refl), root_over r few system of_system) in
     subst (λ (es : List Entry). IsWorkedFrom (setting_of r) budget 0 (root ∷ []) es) (sym (ap (λ (q : List Evidence × List Entry). q.1) (worked_grouped (setting_of r) budget 0 (root ∷ []) _ h))) h
 
 -- the laws of the order of work
 pub order_laws : (r : RankingValue) → r.signature.independents ≤ 4 → (budget : ℕ) → OrderLaws r budget
-order_laws r few budget = record { holds = λ w s low ready. next_holds r few budget w s ready low; is_there = tree_there r few budget }
+order_laws r few budget = record { holds = λ w s low states ready. next_holds r few budget w s states ready low; is_there = tree_there r few budget }

@@ -53,50 +53,62 @@ module _ (r : RankingValue) (few : r.signature.independents ≤ 4) where
   AllBelong = PolynomialIn (BelongsTo r.signature)
 
   -- ---- operations
+  -- what an operation answers
   operation_belongs : (ts : Contributions Symbol) (a : Polynomial Symbol) → operation (symbols_under r) ts ≡ Ok a → AllBelong ts → AllBelong a
   operation_belongs ts a e h = subst AllBelong (operation_is (symbols_under r) ts a e) (in_collect (ranking_cmp r) Belongs ts h)
 
+  -- what a derivation makes of a symbol
   rate_belongs : (i : ℕ) (s : Symbol) → i < r.signature.independents → Belongs s → RateIn Belongs (symbol_rate i s)
   unfolding symbol_rate
   rate_belongs i (Independent j) l h = elim (i == j) as (λ b. RateIn Belongs (cond b unit constant)) [ true ↦ tt | false ↦ tt ]
   rate_belongs i (Derivative u t) l h = raised_belongs r.signature i (Derivative u t) l (omega (arith, l, few)) h
 
+  -- what a partial derivative makes of a symbol
   rate_by_belongs : (v s : Symbol) → Belongs s → RateIn Belongs (rate_by (ranking_cmp r) v s)
   rate_by_belongs v s h = elim (ranking_cmp r s v) as (λ o. RateIn Belongs (match_ordering o constant unit constant)) [ Less ↦ tt | Equal ↦ tt | Greater ↦ tt ]
 
+  -- a derivation
   derivation_belongs : (i : ℕ) (a b : Polynomial Symbol) → i < r.signature.independents → derivation_answer (symbols_under r) i a ≡ Ok b → AllBelong a → AllBelong b
   derivation_belongs i a b l e h = operation_belongs _ b e (in_derivative (ranking_cmp r) Belongs (symbol_rate i) (λ s k. rate_belongs i s l k) a h)
 
+  -- a separant
   separant_belongs : (v : Symbol) (a b : Polynomial Symbol) → separant_answer (symbols_under r) v a ≡ Ok b → AllBelong a → AllBelong b
   separant_belongs v a b e h = operation_belongs _ b e (in_derivative (ranking_cmp r) Belongs (rate_by (ranking_cmp r) v) (rate_by_belongs v) a h)
 
+  -- a product
   product_belongs : (a b c : Polynomial Symbol) → product_answer (symbols_under r) a b ≡ Ok c → AllBelong a → AllBelong b → AllBelong c
   product_belongs a b c e h k = operation_belongs _ c e (in_pairs (ranking_cmp r) Belongs a b h k)
 
+  -- a difference
   difference_belongs : (a b c : Polynomial Symbol) → difference_answer (symbols_under r) a b ≡ Ok c → AllBelong a → AllBelong b → AllBelong c
   difference_belongs a b c e h k = operation_belongs _ c e (in-append (ranking_cmp r) Belongs a (negated b) h (in_negated (ranking_cmp r) Belongs b k))
 
+  -- a derivation taken several times
   iterated_belongs : (i k : ℕ) (a b : Polynomial Symbol) → i < r.signature.independents → iterated_answer (symbols_under r) i k a ≡ Ok b → AllBelong a → AllBelong b
   iterated_belongs i zero a b l e h = let f : a ≡ b = cc in subst AllBelong f h
   iterated_belongs i (suc k) a b l e h =
       let parts = bind_ok (iterated_answer (symbols_under r) i k a) (derivation_answer (symbols_under r) i) b e in
       derivation_belongs i parts.0 b l parts.2 (iterated_belongs i k a parts.0 l parts.1 h)
 
+  -- the derivations from one on
   derivations_belong : (i : ℕ) (ks : List ℕ) (a b : Polynomial Symbol) → i + length ks ≤ r.signature.independents → derivations_answer (symbols_under r) i ks a ≡ Ok b → AllBelong a → AllBelong b
   derivations_belong i [] a b l e h = let f : a ≡ b = cc in subst AllBelong f h
   derivations_belong i (k ∷ ks) a b l e h =
       let parts = bind_ok (iterated_answer (symbols_under r) i k a) (derivations_answer (symbols_under r) (suc i) ks) b e in
       derivations_belong (suc i) ks parts.0 b (omega (arith, l)) parts.2 (iterated_belongs i k a parts.0 (omega (arith, l)) parts.1 h)
 
+  -- an operator
   operator_belongs : (t : Operator) (a b : Polynomial Symbol) → operator_answer (setting_of r) t a ≡ Ok b → AllBelong a → AllBelong b
   operator_belongs t a b e h = derivations_belong 0 (take r.signature.independents t.counts) a b (omega (arith, length-take r.signature.independents t.counts)) e h
 
-  multiplier_belongs : (which : Which) (v : Symbol) (a b : Polynomial Symbol) → multiplier_answer (symbols_under r) which v a ≡ Ok b → AllBelong a → AllBelong b
+  -- the initial or the separant
+  pub multiplier_belongs : (which : Which) (v : Symbol) (a b : Polynomial Symbol) → multiplier_answer (symbols_under r) which v a ≡ Ok b → AllBelong a → AllBelong b
   multiplier_belongs Initial v a b e h =
       let f : collect _ (coefficient_of (ranking_cmp r) v (degree (ranking_cmp r) v a) a) ≡ b = cc in
       subst AllBelong f (in_collect (ranking_cmp r) Belongs _ (in_coefficient (ranking_cmp r) Belongs v (degree (ranking_cmp r) v a) a h))
   multiplier_belongs Separant v a b e h = separant_belongs v a b e h
 
+  -- a polynomial times a power
   times_power_belongs : (v : Symbol) (k : ℕ) (p : Polynomial Symbol) → Belongs v → AllBelong p → AllBelong (times_power (ranking_cmp r) v k p)
   times_power_belongs v zero p i h = h
   times_power_belongs v (suc k) [] i h = h
@@ -112,6 +124,7 @@ module _ (r : RankingValue) (few : r.signature.independents ≤ 4) where
       by_exponent (suc e) f ih l = occurs (ranking_order r) Belongs v t.0 (λ z. omega (arith, f, z)) h.0
 
   -- ---- steps
+  -- what a step makes of its parts
   parts_belong : (f q a : Polynomial Symbol) (v : Symbol) (d e : ℕ) (x : Polynomial Symbol) (s : StepParts r f q a v d e x) → Belongs v → AllBelong f → AllBelong q → AllBelong a → AllBelong x
   parts_belong f q a v d e x s i of_f of_q of_a =
       let c = coefficient_of (ranking_cmp r) v d f in
@@ -159,11 +172,13 @@ module _ (r : RankingValue) (few : r.signature.independents ≤ 4) where
       ]
 
   -- ---- the operators of full runs
+  -- differences of exponents are as many
   differences_length : (ts ks : List ℕ) → length (exponent_differences ts ks) ≡ length ts
   differences_length [] ks = refl
   differences_length (t ∷ ts) [] = refl
   differences_length (t ∷ ts) (k ∷ ks) = ap suc (differences_length ts ks)
 
+  -- a quotient has four exponents
   quotient_length : (v l : Symbol) (t : Operator) → quotient v l ≡ Some t → IsRegular 4 v → length t.counts ≡ 4
   quotient_length (Independent i) l t e h = cc
   quotient_length (Derivative u a) (Independent j) t e h = cc
@@ -173,6 +188,7 @@ module _ (r : RankingValue) (few : r.signature.independents ≤ 4) where
       by_test true e = let o : record { counts = exponent_differences a.counts b.counts } ≡ t = cc in subst (λ (x : Operator). length x.counts ≡ 4) o (differences_length a.counts b.counts ∙ h)
       by_test false e = cc
 
+  -- a symbol of the signature has four exponents
   regular_of : (s : Symbol) → Belongs s → IsRegular 4 s
   regular_of (Independent j) h = tt
   regular_of (Derivative u t) h = (h.1).size
@@ -181,6 +197,7 @@ module _ (r : RankingValue) (few : r.signature.independents ≤ 4) where
   quotient_fits : (v l : Symbol) (t : Operator) → quotient v l ≡ Some t → is_derivative l ≡ true → Belongs v → Belongs l → IsOperatorOf r.signature.independents t
   quotient_fits v l t e d of_v of_l = quotient_is_operator r.signature v l t of_v of_l (quotient_length v l t e (regular_of v of_v)) (d, sym (derivative_quotient 4 v l t e (regular_of v of_v) (regular_of l of_l)))
 
+  -- a leader belongs to the signature
   leader_belongs : (q : Polynomial Symbol) (l : Symbol) → leader (symbols_under r) q ≡ Some l → AllBelong q → Belongs l
   leader_belongs q l e h = leader_in r Belongs q l e (all_map r Belongs (λ s. is_derivative s ≡ true → Belongs s) (λ s k z. k) q h)
 

@@ -10,7 +10,6 @@ use Rattle.dz_rank.specs.Rankings.{RankingValue}
 use Rattle.dz_rank.specs.declared.symbols.Symbol.{Symbol}
 use Rattle.dz_diff.specs.Lists.{AllOf, SomeOf}
 use Rattle.dz_diff.specs.Operations.{Setting, setting_of}
-use Rattle.dz_diff.specs.Over.{IsOver}
 use Rattle.dz_diff.specs.Root.{System, is_closed, root_of}
 use Rattle.dz_diff.specs.State.{State, at_place}
 use Rattle.dz_step.specs.declared.Role.TheVariants.{Free}
@@ -29,9 +28,9 @@ abbrev pub SeparantsAreWide : Setting → State → Type 0
 SeparantsAreWide g s =
     (i : ℕ) (p : Polynomial Symbol) (l : Symbol) (r : Refusal) → at_place i s.equations ≡ Some p → leader g.symbols p ≡ Some l → separant_answer g.symbols l p ≡ Err r → r ≡ wide
 
--- a polynomial is over a ranking, and normalised
-abbrev pub IsNormal : RankingValue → Polynomial Symbol → Type 0
-IsNormal r p = IsOver r p × (norm p ≡ p)
+-- a polynomial is its own norm
+abbrev pub IsNormal : Polynomial Symbol → Type 0
+IsNormal p = norm p ≡ p
 
 -- the pairs of places that evidence is for
 abbrev pub places_of : List Evidence → List (ℕ × ℕ)
@@ -49,8 +48,8 @@ pub record AtRest (g : Setting) (s : State) : Type 0 where
 -- what is asked of a state at a running weight
 pub record IsReady (r : RankingValue) (budget w : ℕ) (s : State) : Type 0 where
   pub separants : SeparantsAreWide (setting_of r) s
-  pub equations_normal : AllOf (IsNormal r) s.equations
-  pub inequations_normal : AllOf (IsNormal r) s.inequations
+  pub equations_normal : AllOf IsNormal s.equations
+  pub inequations_normal : AllOf IsNormal s.inequations
   pub at_rest : is_closed (symbols_under r) s ≡ false → divide_next (setting_of r) budget w s ≡ None → reduce_next (setting_of r) budget w s ≡ None → factor_next (setting_of r) budget w s ≡ None
       → split_next (setting_of r) budget w s ≡ None → weed_next (setting_of r) budget w s ≡ None → AtRest (setting_of r) s
 

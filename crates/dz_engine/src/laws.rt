@@ -23,8 +23,9 @@ pub fn worked_trees_are_certified()
     ensures { (g : Setting) → WorkedLaws g }
 {}
 
-/// The order of work never stands without an answer: at a state that is ready, the line that it
-/// names holds, and where all states that are reached are ready, there is a worked tree.
+/// The order of work never stands without an answer: at a state over the ranking that is ready, the
+/// line that it names holds; and for a system over the ranking, where all states that are reached
+/// are ready, there is a worked tree.
 #[tactic(auto, using(crate::proofs::OrderOfWork::order_laws))]
 pub fn order_of_work_goes_on()
     ensures { (r : RankingValue) → r.signature.independents ≤ 4 → (budget : ℕ) → OrderLaws r budget }
