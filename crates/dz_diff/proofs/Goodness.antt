@@ -1,10 +1,10 @@
 -- Operations on canonical polynomials in the symbols of a signature give such.
-use Rattle.std.proofs.Common.{◌≡◌, ℕ, zero, suc, ◌<◌, ◌==◌, true, false, cond, List, [], ◌∷◌, ◌++◌, take, ℤ, arith, subst, Ok}
+use Rattle.std.proofs.Common.{◌≡◌, ℕ, zero, suc, ◌<◌, ◌==◌, true, false, cond, List, [], ◌∷◌, take, ℤ, arith, subst, Ok}
 use Rattle.std.specs.Prelude.{⊤}
 use Rattle.std.specs.declared.cmp.Ordering.TheVariants.{Less, Equal, Greater}
 use Rattle.std.specs.Ordering.{match_ordering}
-use Rattle.dz_algebra.specs.Monomial.{monomial_cmp, MonomialIn, IsMonomial}
-use Rattle.dz_algebra.specs.Polynomial.{Polynomial, Contributions, IsPolynomial, PolynomialIn, AreMonomials, collect, negated, pairs}
+use Rattle.dz_algebra.specs.Monomial.{monomial_cmp}
+use Rattle.dz_algebra.specs.Polynomial.{Polynomial, Contributions, IsPolynomial, PolynomialIn, AreMonomials, collect, negated}
 use Rattle.dz_algebra.specs.Derivation.{RateIn, constant, unit, rate_by}
 use Rattle.dz_algebra.specs.Parts.{coefficient_of}
 use Rattle.dz_algebra.specs.Norm.{divided, norm}

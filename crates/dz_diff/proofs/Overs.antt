@@ -1,6 +1,5 @@
 -- Polynomials over a ranking are canonical, in the signature, and their operators have four exponents.
-use Rattle.std.specs.Prelude.{⊤}
-use Rattle.std.proofs.Common.{◌≡◌, ◌∷◌, []}
+use Rattle.std.proofs.Common.{◌∷◌, []}
 use Rattle.dz_algebra.specs.Monomial.{Monomial, MonomialIn}
 use Rattle.dz_algebra.specs.Polynomial.{Polynomial, PolynomialIn}
 use Rattle.dz_rank.specs.Rankings.{RankingValue}

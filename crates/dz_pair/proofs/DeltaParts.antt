@@ -1,6 +1,5 @@
 -- What a Delta-polynomial is computed from, and that it is canonical, in the signature.
 use Rattle.std.proofs.Common.{◌≡◌, ◌⊎◌, inl, inr, [], subst, Ok, Option, Some, None}
-use Rattle.std.specs.Prelude.{⊤}
 use Rattle.dz_algebra.specs.Polynomial.{Polynomial}
 use Rattle.dz_algebra.specs.Norm.{norm}
 use Rattle.dz_algebra.specs.Parts.{leader}

@@ -1,6 +1,6 @@
 -- Steps lower degrees, so a run of some steps never ends where it began.
-use Rattle.std.specs.Prelude.{⊤, sum, not, nat_le, take}
-use Rattle.std.proofs.Common.{◌≡◌, ◌≢◌, ℕ, zero, suc, ◌+◌, ◌==◌, ◌≤◌, ◌<◌, Bool, true, false, cond, List, [], ◌∷◌, length, refl, sym, ap, ap₂, ◌∙◌, arith, subst, Result, Ok, Err, Option, Some}
+use Rattle.std.specs.Prelude.{is_some, sum, not, nat_le, take}
+use Rattle.std.proofs.Common.{◌≡◌, ◌≢◌, ℕ, zero, suc, ◌+◌, ◌==◌, ◌≤◌, ◌<◌, Bool, true, false, cond, List, [], ◌∷◌, length, refl, sym, ap, ap₂, ◌∙◌, arith, subst, Result, Ok, Err, Option, Some, None}
 use Rattle.std.proofs.lemmas.List.Sums.{sum_by-cons}
 use Rattle.std.proofs.lemmas.Bool.{leb-true, eqb-true}
 use Rattle.std.specs.declared.cmp.Ordering.{Ordering}
@@ -42,8 +42,10 @@ use Rattle.dz_step.specs.declared.Role.{Role}
 use Rattle.dz_step.specs.declared.Step.{Step}
 use Rattle.dz_step.specs.Step.{Stop, refused, no_step, multiplier_answer, multiplier_of, step_degree, step_by, step_in}
 use Rattle.dz_step.specs.Run.{Ran, run_from, run}
+use Rattle.dz_step.specs.FullRun.{next_step}
 use Rattle.dz_step.specs.Laws.{ReductionLaws}
 use Rattle.dz_step.proofs.TakenSteps.{leader_is_derivative, taken_step, good_step}
+use Rattle.dz_step.proofs.NoSteps.{none_is_step}
 use Rattle.dz_step.proofs.NextSteps.{Limited, next_step_is_step}
 use Rattle.dz_step.proofs.Lowering.{each_coefficient, each_monomial}
 use Rattle.dz_step.proofs.StepsLower.{Lowers, proper_lowers, lowers, leader_in, under_leader, leader_regular, zero_above, degree_most}
@@ -235,10 +237,15 @@ not_none (Ok x) h e = cc
 not_none (Err (refused k)) h e = cc
 not_none (Err no_step) h e = h
 
+none_of : {A : Type 0} (o : Option A) → is_some o ≡ false → o ≡ None
+none_of None e = refl
+none_of (Some x) e = cc
+
 -- the laws of reduction
 pub reduction_laws : (r : RankingValue) (s : State) → r.signature.independents ≤ 4 → AllOf (IsOver r) s.equations → ReductionLaws r s
 reduction_laws r s few over = record {
   lowers = λ role f x q l st of_f fits at is e. step_lowers r few s role f x q l st (over_regular r s.equations over) fits (good_over r f of_f) at is e;
   next_is_step = λ role f st of_f e. not_none (step_in (setting_of r) s role f st) (next_step_is_step r s role f st e (regular_over r f of_f) (all_regular r s.equations over));
+  at_rest = λ role f st e fits. none_is_step r s role f st (none_of (next_step (setting_of r) s role f) e) (over_regular r s.equations over) fits.size;
   never_returns = λ role f st steps x of_f fits e. run_never_returns r few s role f st steps x (over_regular r s.equations over) fits (good_over r f of_f) e;
 }

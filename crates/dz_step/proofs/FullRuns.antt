@@ -13,6 +13,7 @@ use Rattle.dz_step.specs.Step.{Stop, step_in}
 use Rattle.dz_step.specs.Run.{run_from, run}
 use Rattle.dz_step.specs.FullRun.{Course, finished, stopped, passed, full_run_from, full_run, next_step}
 use Rattle.dz_step.specs.Laws.{FullRunLaws}
+use Rattle.dz_step.proofs.Courses.{full_run_low, full_run_passed}
 
 module _ (g : Setting) (s : State) (role : Role) (budget : ℕ) where
   -- what a finished full run found: a run, to an end that admits no step
@@ -78,4 +79,6 @@ pub full_run_laws : (g : Setting) → FullRunLaws g
 full_run_laws g = record {
   is_run = λ s role budget f steps end count e. (full_run_is_run g s role budget f steps end count e).0;
   at_rest = λ s role budget f steps end count e. ap is_some (full_run_is_run g s role budget f steps end count e).1;
+  within = λ s role budget f steps end count e. full_run_low g s role budget f steps end count e;
+  is_cut = λ s role budget f steps e. let k = full_run_passed g s role budget f steps e in (k.2, k.4, k.5);
 }

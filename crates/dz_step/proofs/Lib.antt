@@ -4,3 +4,5 @@ pub mod Lowering
 pub mod StepsLower
 pub mod Falls
 pub mod NextSteps
+pub mod NoSteps
+pub mod Courses

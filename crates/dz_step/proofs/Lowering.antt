@@ -1,5 +1,5 @@
 -- A step lowers the degree in its symbol, and raises none above.
-use Rattle.std.specs.Prelude.{⊤, int_div, unsigned_abs}
+use Rattle.std.specs.Prelude.{int_div, unsigned_abs}
 use Rattle.std.proofs.Common.{◌≡◌, ℕ, zero, suc, ◌+◌, ◌-◌, ◌≤◌, ◌<◌, Bool, true, false, cond, List, [], ◌∷◌, ◌++◌, ℤ, pos, ◌+ℤ◌, ◌*ℤ◌, neg_ℤ, refl, sym, ap, ap₂, ◌∙◌, arith, subst, eqb, Ok}
 use Rattle.std.proofs.lemmas.Int.{ints}
 use Rattle.std.specs.declared.cmp.Ordering.TheVariants.{Less}

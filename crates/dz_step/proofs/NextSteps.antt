@@ -1,6 +1,6 @@
 -- The step that a full run takes is a step: where it has no result, an operation of it is refused.
 use Rattle.std.specs.Prelude.{⊤}
-use Rattle.std.proofs.Common.{◌≡◌, ◌⊎◌, ℕ, zero, suc, ◌+◌, ◌-◌, ◌==◌, nat_le, Bool, true, false, ◌&&◌, cond, List, [], ◌∷◌, length, refl, sym, ap, ap₂, ◌∙◌, subst, Result, Ok, Err, Option, Some, None, inl, inr, arith}
+use Rattle.std.proofs.Common.{◌≡◌, ◌⊎◌, ℕ, zero, suc, ◌+◌, ◌==◌, nat_le, Bool, true, false, ◌&&◌, cond, List, [], ◌∷◌, length, refl, sym, ap, ap₂, ◌∙◌, subst, Result, Ok, Err, Option, Some, None, inl, inr, arith}
 use Rattle.std.proofs.lemmas.Bool.{eqb-true, leb-true}
 use Rattle.std.specs.declared.cmp.Ordering.TheVariants.{Less, Equal, Greater}
 use Rattle.std.specs.Ordering.{match_ordering}
@@ -31,16 +31,19 @@ use Rattle.dz_step.specs.FullRun.{with_derivatives, derivatives_of, or_else, ste
 use Rattle.dz_step.proofs.StepsLower.{leader_regular}
 
 -- ---- answers that only an operation refuses
+-- an operation is refused
+abbrev pub IsRefusal : Stop → Type 0
+IsRefusal (refused r) = ⊤
+IsRefusal no_step = ⊥
+
 -- there is an answer, or an operation is refused
 abbrev pub Limited : {A : Type 0} → Result A Stop → Type 0
 Limited (Ok x) = ⊤
-Limited (Err (refused r)) = ⊤
-Limited (Err no_step) = ⊥
+Limited (Err stop) = IsRefusal stop
 
 limited_bind : {A B : Type 0} (q : Result A Stop) (f : A → Result B Stop) → Limited q → ((x : A) → Limited (f x)) → Limited (q >>= f)
 limited_bind (Ok x) f h k = k x
-limited_bind (Err (refused r)) f h k = tt
-limited_bind (Err no_step) f h k = absurd h
+limited_bind (Err stop) f h k = h
 
 limited_told : {A : Type 0} (q : Result A Refusal) → Limited (told_as refused q)
 limited_told (Ok x) = tt

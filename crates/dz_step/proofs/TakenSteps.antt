@@ -1,6 +1,5 @@
 -- What a step computes, and that steps and runs make canonical polynomials in the signature.
-use Rattle.std.specs.Prelude.{⊤}
-use Rattle.std.proofs.Common.{◌≡◌, ℕ, suc, ◌+◌, ◌-◌, nat_le, true, List, [], ◌∷◌, length, pos, refl, sym, ap, ◌∙◌, subst, Result, Ok, Some}
+use Rattle.std.proofs.Common.{◌≡◌, ℕ, ◌-◌, nat_le, true, pos, sym, ap, ◌∙◌, subst, Result, Ok, Some}
 use Rattle.dz_algebra.specs.Monomial.{monomial_cmp}
 use Rattle.dz_algebra.specs.Polynomial.{Polynomial, collect}
 use Rattle.dz_algebra.specs.Norm.{gcd, content, divided, norm}
@@ -14,7 +13,7 @@ use Rattle.dz_rank.specs.declared.symbols.Symbol.{Symbol}
 use Rattle.dz_rank.specs.declared.symbols.Symbol.TheVariants.{Independent, Derivative}
 use Rattle.dz_poly.specs.Ranked.{symbols_under}
 use Rattle.dz_poly.proofs.SymbolLaws.{ranking_order}
-use Rattle.dz_diff.specs.Outcome.{◌>>=◌, numbered, told_as}
+use Rattle.dz_diff.specs.Outcome.{◌>>=◌, told_as}
 use Rattle.dz_diff.specs.Tests.{Polynomials}
 use Rattle.dz_diff.specs.Operations.{operator_answer, setting_of, times_power}
 use Rattle.dz_diff.specs.State.{State, at_place}
@@ -24,8 +23,7 @@ use Rattle.dz_step.specs.declared.Which.{Which}
 use Rattle.dz_step.specs.declared.Which.TheVariants.{Initial, Separant}
 use Rattle.dz_step.specs.declared.Role.{Role}
 use Rattle.dz_step.specs.declared.Step.{Step}
-use Rattle.dz_step.specs.Step.{Stop, refused, multiplier_answer, is_allowed, permitted_if, usable, is_divisor, multiplier_of, is_permitted, step_degree, step_by, step_in}
-use Rattle.dz_step.specs.Run.{Ran, run_from, run}
+use Rattle.dz_step.specs.Step.{refused, multiplier_answer, is_allowed, permitted_if, usable, is_divisor, multiplier_of, is_permitted, step_degree, step_by, step_in}
 
 module _ (r : RankingValue) where
   -- the leader of a polynomial is a derivative

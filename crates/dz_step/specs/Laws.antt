@@ -16,7 +16,7 @@ use Rattle.dz_step.specs.declared.Role.{Role}
 use Rattle.dz_step.specs.declared.Step.{Step}
 use Rattle.dz_step.specs.Step.{no_step, step_in}
 use Rattle.dz_step.specs.Run.{Ran, run}
-use Rattle.dz_step.specs.FullRun.{admits, finished, full_run, next_step}
+use Rattle.dz_step.specs.FullRun.{admits, finished, passed, full_run, next_step}
 
 -- a full run that comes to its end is a run with this end and count, and the end admits no step
 pub record FullRunLaws (g : Setting) : Type 0 where
@@ -24,6 +24,12 @@ pub record FullRunLaws (g : Setting) : Type 0 where
       → full_run g s role budget f ≡ finished steps end count → run g s role f steps ≡ Ok (record { end = end; count = count })
   pub at_rest : (s : State) (role : Role) (budget : ℕ) (f : Polynomial Symbol) (steps : List Step) (end : Polynomial Symbol) (count : ℕ)
       → full_run g s role budget f ≡ finished steps end count → admits g s role end ≡ false
+  -- its count is within the budget
+  pub within : (s : State) (role : Role) (budget : ℕ) (f : Polynomial Symbol) (steps : List Step) (end : Polynomial Symbol) (count : ℕ)
+      → full_run g s role budget f ≡ finished steps end count → count ≤ budget
+  -- a full run that is cut is a run with a count past the budget
+  pub is_cut : (s : State) (role : Role) (budget : ℕ) (f : Polynomial Symbol) (steps : List Step)
+      → full_run g s role budget f ≡ passed steps → (x : Ran) × (run g s role f steps ≡ Ok x) × (budget < x.count)
 
 -- the degree in v is less, and that in no greater symbol is more
 abbrev pub IsLower : RankingValue → Symbol → Polynomial Symbol → Polynomial Symbol → Type 0
@@ -38,6 +44,8 @@ pub record ReductionLaws (r : RankingValue) (s : State) : Type 0 where
       → at_place st.place s.equations ≡ Some q → leader (symbols_under r) q ≡ Some l → step_in (setting_of r) s role f st ≡ Ok x → IsLower r (derivative_by st.operator l) f x
   -- the step that a full run takes next is a step: where it has no result, an operation of it is refused
   pub next_is_step : (role : Role) (f : Polynomial Symbol) (st : Step) → IsOver r f → next_step (setting_of r) s role f ≡ Some st → step_in (setting_of r) s role f st ≢ Err no_step
+  -- where a full run finds no step, no place and no operator make one
+  pub at_rest : (role : Role) (f : Polynomial Symbol) (st : Step) → admits (setting_of r) s role f ≡ false → IsOperatorOf r.signature.independents st.operator → step_in (setting_of r) s role f st ≡ Err no_step
   -- a run of one step or more does not end where it began
   pub never_returns : (role : Role) (f : Polynomial Symbol) (st : Step) (steps : List Step) (x : Ran) → IsOver r f → AllOf (λ (st : Step). IsOperatorOf r.signature.independents st.operator) (st ∷ steps)
       → run (setting_of r) s role f (st ∷ steps) ≡ Ok x → x.end ≢ norm f

@@ -1,6 +1,6 @@
 -- The walk over a tree comes to its end exactly where each entry holds.
 use Rattle.std.specs.Prelude.{⊤}
-use Rattle.std.proofs.Common.{◌≡◌, ◌↔◌, ℕ, ◌+◌, ◌≤◌, nat_le, Bool, true, false, cond, List, [], ◌∷◌, ◌++◌, length, refl, sym, ap, ◌∙◌, arith, subst, Result, Ok, Err, IsOk}
+use Rattle.std.proofs.Common.{◌≡◌, ◌↔◌, ℕ, ◌+◌, ◌≤◌, nat_le, Bool, true, false, cond, List, [], ◌∷◌, ◌++◌, length, refl, sym, ap, ◌∙◌, subst, Result, Ok, Err, IsOk}
 use Rattle.std.proofs.lemmas.Bool.{leb-true, le-leb}
 use Rattle.dz_diff.specs.Outcome.{◌>>=◌, needs, told_as}
 use Rattle.dz_diff.specs.Operations.{Setting}
@@ -9,7 +9,7 @@ use Rattle.dz_diff.specs.Root.{System, is_closed, root_of}
 use Rattle.dz_diff.proofs.Answers.{bind_ok, told_ok, then_ok, ok_same}
 use Rattle.dz_tree.specs.declared.Rule.{Rule}
 use Rattle.dz_tree.specs.declared.Rule.TheVariants as rules
-use Rattle.dz_tree.specs.Moves.{Done, perform}
+use Rattle.dz_tree.specs.Moves.{perform}
 use Rattle.dz_tree.specs.Chain.{Evidence, chain_weight}
 use Rattle.dz_tree.specs.Lines.{Line, act, closed, chain, pair, spent, spent_pairs, open_wide, open_separant, open_large, Entry, entries_of}
 use Rattle.dz_tree.specs.Reasons.{reason_holds}

@@ -1,5 +1,5 @@
 -- The quotient by the greatest power of a symbol is canonical, in the signature.
-use Rattle.std.proofs.Common.{◌≡◌, ◌≢◌, ℕ, zero, suc, ◌-◌, [], ◌∷◌, arith}
+use Rattle.std.proofs.Common.{◌≢◌, ℕ, zero, suc, ◌-◌, [], ◌∷◌, arith}
 use Rattle.dz_algebra.specs.Monomial.{MonomialIn, IsMonomial, exponent, without}
 use Rattle.dz_algebra.specs.Polynomial.{Polynomial}
 use Rattle.dz_algebra.proofs.Coefficients.{without_is}

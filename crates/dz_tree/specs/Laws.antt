@@ -1,5 +1,5 @@
 -- The laws of trees; the crate's law functions ask for their proofs.
-use Rattle.std.specs.Prelude.{◌≡◌, ◌≤◌, ℕ, true, false, cond, length, Ok, ◌↔◌}
+use Rattle.std.specs.Prelude.{◌≡◌, ◌≤◌, true, false, cond, length, Ok, ◌↔◌}
 use Rattle.dz_diff.specs.Operations.{Setting}
 use Rattle.dz_diff.specs.State.{State}
 use Rattle.dz_diff.specs.Root.{System}
