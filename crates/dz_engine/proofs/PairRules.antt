@@ -33,7 +33,8 @@ use Rattle.dz_tree.specs.Walk.{Below, ended, told_at_line, entered}
 use Rattle.dz_engine.specs.Order.{line_alone, open_line, affordable, with_evidence, evidence, after_course, delta_at, after_delta, pairs_next}
 use Rattle.dz_engine.specs.Ready.{AtRest, places_of, EntryHolds}
 use Rattle.dz_engine.proofs.EasyRules.{and_is, needs_is, given_is, holds_needs, open_holds}
-use Rattle.dz_engine.proofs.RunRules.{StepsGo, full_run_stopped, full_run_passed, full_run_low, is_not}
+use Rattle.dz_step.proofs.Courses.{full_run_low}
+use Rattle.dz_engine.proofs.RunRules.{StepsGo, full_run_stopped, full_run_passed, is_not}
 
 -- ---- critical pairs rise
 -- a pair of places is before another
@@ -344,7 +345,7 @@ module _ (g : Setting) (budget w0 : ℕ) (s : State) (Fine : Polynomial Symbol �
           spent_holds w (1 + length d + (r.2).count) es (evidence (i, j) steps) ps h (open_weight_is i j n steps d r.2 e r.4) (omega (arith, low, r.5))
       by_course d (finished steps end count) e low f ih =
           let r = full_run_is_run g s Free (budget - (w + 1 + length d)) d steps end count f in
-          by_zero d steps end count (is_zero end) e r.0 r.1 (omega (arith, low, full_run_low g s Free (budget - (w + 1 + length d)) Fine Fits go d steps end count f)) refl ih
+          by_zero d steps end count (is_zero end) e r.0 r.1 (omega (arith, low, full_run_low g s Free (budget - (w + 1 + length d)) d steps end count f)) refl ih
 
       by_test : (d : Polynomial Symbol) (b : Bool) → delta_answer g n.first n.second ≡ Ok d → nat_lt budget (w + 1 + length d) ≡ b
           → ((w' : ℕ) (es' : List Evidence) → SoFar w' es' ps → EntryHolds g budget w0 s (next w' es'))

@@ -166,37 +166,6 @@ module _ (g : Setting) (s : State) (role : Role) (budget : ℕ) (Fine : Polynomi
       by_step None m ih e = cc
       by_step (Some st) m ih e = by_answer st (step_in g s role f st) m refl ih e
 
-  -- the count of a full run that comes to its end
-  low_is : (rounds : ℕ) (done : List Step) (f : Polynomial Symbol) (count : ℕ) (steps : List Step) (end : Polynomial Symbol) (c : ℕ) → count ≤ budget → full_run_from g s role budget rounds done f count ≡ finished steps end c → c ≤ budget
-  low_is zero done f count steps end c low e = cc
-  low_is (suc rounds) done f count steps end c low e = by_step (next_step g s role f) (λ st r k z h. low_is rounds (done ++ st ∷ []) r k steps end c z h) e
-    where
-      by_test : (b : Bool) (st : Step) (r : Polynomial Symbol) → nat_lt budget (count + 1 + length r) ≡ b → ((st : Step) (r : Polynomial Symbol) (k : ℕ) → k ≤ budget → full_run_from g s role budget rounds (done ++ st ∷ []) r k ≡ finished steps end c → c ≤ budget) → cond b (passed (done ++ st ∷ [])) (full_run_from g s role budget rounds (done ++ st ∷ []) r (count + 1 + length r)) ≡ finished steps end c → c ≤ budget
-      by_test true st r t ih e = cc
-      by_test false st r t ih e = ih st r (count + 1 + length r) (omega (arith, ltb-false budget (count + 1 + length r) t)) e
-
-      by_answer : (st : Step) (q : Result (Polynomial Symbol) Stop) → ((st : Step) (r : Polynomial Symbol) (k : ℕ) → k ≤ budget → full_run_from g s role budget rounds (done ++ st ∷ []) r k ≡ finished steps end c → c ≤ budget) → (elim q as (λ _. Course) [
-        | Err stop ↦ stopped (done ++ st ∷ []) stop
-        | Ok r ↦ cond (nat_lt budget (count + 1 + length r)) (passed (done ++ st ∷ [])) (full_run_from g s role budget rounds (done ++ st ∷ []) r (count + 1 + length r))
-      ]) ≡ finished steps end c → c ≤ budget
-      by_answer st (Err other) ih e = cc
-      by_answer st (Ok r) ih e = by_test (nat_lt budget (count + 1 + length r)) st r refl ih e
-
-      by_step : (o : Option Step) → ((st : Step) (r : Polynomial Symbol) (k : ℕ) → k ≤ budget → full_run_from g s role budget rounds (done ++ st ∷ []) r k ≡ finished steps end c → c ≤ budget) → (elim o as (λ _. Course) [
-        | None ↦ finished done f count
-        | Some st ↦ elim (step_in g s role f st) as (λ _. Course) [
-          | Err stop ↦ stopped (done ++ st ∷ []) stop
-          | Ok r ↦ cond (nat_lt budget (count + 1 + length r)) (passed (done ++ st ∷ [])) (full_run_from g s role budget rounds (done ++ st ∷ []) r (count + 1 + length r))
-        ]
-      ]) ≡ finished steps end c → c ≤ budget
-      by_step None ih e = let k : count ≡ c = cc in omega (arith, low, k)
-      by_step (Some st) ih e = by_answer st (step_in g s role f st) ih e
-
-  -- a finished full run is within the budget
-  pub full_run_low : (f : Polynomial Symbol) (steps : List Step) (end : Polynomial Symbol) (c : ℕ) → full_run g s role budget f ≡ finished steps end c → c ≤ budget
-  unfolding full_run
-  full_run_low f steps end c e = low_is (suc budget) [] (norm f) 0 steps end c (omega arith) e
-
   -- a full run that is stopped is a run that is refused after all its steps
   pub full_run_stopped : (f : Polynomial Symbol) (steps : List Step) (stop : Stop) → Fine (norm f) → full_run g s role budget f ≡ stopped steps stop
       → (run g s role f steps ≡ Err (length steps, stop)) × IsRefusal (fault_of stop)
