@@ -27,7 +27,7 @@ use Rattle.dz_rank.specs.declared.symbols.Operator.{Operator}
 use Rattle.dz_rank.specs.declared.symbols.Symbol.{Symbol}
 use Rattle.dz_rank.specs.declared.symbols.Symbol.TheVariants.{Derivative}
 use Rattle.dz_rank.proofs.Raising.{grows}
-use Rattle.dz_poly.specs.Ranked.{symbol_rate, symbols_under}
+use Rattle.dz_terms.specs.Ranked.{symbol_rate, symbols_under}
 use Rattle.dz_diff.specs.Lists.{AllOf}
 use Rattle.dz_diff.specs.Operators.{is_proper}
 use Rattle.dz_diff.specs.Operations.{iterated_answer, derivations_answer, operator_answer, setting_of}

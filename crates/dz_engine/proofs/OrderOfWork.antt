@@ -7,14 +7,14 @@ use Rattle.dz_rank.specs.Rankings.{RankingValue}
 use Rattle.dz_rank.specs.declared.symbols.Symbol.{Symbol}
 use Rattle.dz_diff.specs.Outcome.{◌>>=◌, needs, numbered, told_as}
 use Rattle.dz_diff.specs.Lists.{AllOf, SomeOf}
-use Rattle.dz_poly.proofs.SymbolLaws.{ranking_order}
+use Rattle.dz_terms.proofs.SymbolLaws.{ranking_order}
 use Rattle.dz_diff.specs.Operations.{Setting, setting_of}
 use Rattle.dz_diff.specs.Over.{IsOver, AreOver}
 use Rattle.dz_diff.specs.State.{State, at_place}
 use Rattle.dz_diff.specs.Root.{System, is_closed, root_of}
 use Rattle.dz_diff.proofs.Answers.{bind_ok, told_ok, then_ok, ok_same}
 use Rattle.dz_diff.specs.Tests.{Polynomials}
-use Rattle.dz_poly.specs.Ranked.{symbols_under}
+use Rattle.dz_terms.specs.Ranked.{symbols_under}
 use Rattle.dz_step.specs.declared.Role.TheVariants.{Free, Equation, Inequation}
 use Rattle.dz_algebra.specs.Norm.{norm}
 use Rattle.dz_rank.specs.Symbols.{IsOperatorOf}

@@ -6,10 +6,11 @@ use Rattle.dz_algebra.specs.Polynomial.{Polynomial, polynomial_negative, symbol_
 use Rattle.dz_algebra.specs.Size.{Refusal, difference_answer, product_answer, sum_answer}
 use Rattle.dz_algebra.specs.Symbols.{Symbols}
 use Rattle.dz_rank.specs.declared.symbols.Symbol as rank
-use Rattle.dz_poly.specs.Books.{BookValue, Gives, IsAdded, IsKept, IsStop, Means}
-use Rattle.dz_poly.specs.declared.PolyStop.{PolyStop}
-use Rattle.dz_poly.specs.Ranked.{symbols_under}
-use Rattle.dz_poly.specs.Terms.{constant_polynomial}
+use Rattle.dz_poly.specs.Books.{BookValue, Gives, IsAdded, IsKept, Means}
+use Rattle.dz_terms.specs.Stops.{IsStop}
+use Rattle.dz_terms.specs.declared.PolyStop.{PolyStop}
+use Rattle.dz_terms.specs.Ranked.{symbols_under}
+use Rattle.dz_terms.specs.Terms.{constant_polynomial}
 use Rattle.dz_poly.proofs.Books.{IsKept-append}
 use Rattle.dz_syntax.specs.declared.expression.Op.{Op}
 use Rattle.dz_syntax.specs.declared.expression.Op.TheVariants.{Number, Symbol, Negate, Add, Sub, Mul, Power}

@@ -10,13 +10,13 @@ use Rattle.dz_algebra.proofs.Inside.{in-append}
 use Rattle.dz_rank.specs.declared.symbols.Symbol as rank
 use Rattle.dz_rank.specs.Rankings.{RankingValue, ranking_cmp}
 use Rattle.dz_rank.specs.Symbols.{BelongsTo, total_order}
-use Rattle.dz_poly.specs.Books.{IsKeepable}
-use Rattle.dz_poly.specs.Ranked.{symbols_under}
-use Rattle.dz_poly.specs.Terms.{constant_polynomial}
-use Rattle.dz_poly.proofs.Multiplying.{product_keepable, zero_entry}
-use Rattle.dz_poly.proofs.OneTerm.{number_entry, power_entry}
-use Rattle.dz_poly.proofs.Operations.{operation_keepable}
-use Rattle.dz_poly.proofs.SymbolLaws.{ranking_order}
+use Rattle.dz_terms.specs.Entries.{IsKeepable}
+use Rattle.dz_terms.specs.Ranked.{symbols_under}
+use Rattle.dz_terms.specs.Terms.{constant_polynomial}
+use Rattle.dz_terms.proofs.Multiplying.{product_keepable, zero_entry}
+use Rattle.dz_terms.proofs.OneTerm.{number_entry, power_entry}
+use Rattle.dz_terms.proofs.Operations.{operation_keepable}
+use Rattle.dz_terms.proofs.SymbolLaws.{ranking_order}
 use Rattle.dz_syntax.specs.declared.expression.Op.{Op}
 use Rattle.dz_syntax.specs.declared.expression.Op.TheVariants.{Number, Symbol, Negate, Add, Sub, Mul, Power}
 use Rattle.dz_syntax.specs.Postfix.{IsExpression, IsStep}

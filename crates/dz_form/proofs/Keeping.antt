@@ -13,9 +13,9 @@ use Rattle.dz_algebra.proofs.Canonical.{collected}
 use Rattle.dz_algebra.proofs.Operations.{gathered_polynomial, operation_ok}
 use Rattle.dz_rank.specs.declared.symbols.Symbol.{Symbol}
 use Rattle.dz_rank.specs.Rankings.{RankingValue, ranking_cmp}
-use Rattle.dz_poly.specs.Books.{IsKeepable}
-use Rattle.dz_poly.specs.Ranked.{symbols_under}
-use Rattle.dz_poly.proofs.SymbolLaws.{ranking_order}
+use Rattle.dz_terms.specs.Entries.{IsKeepable}
+use Rattle.dz_terms.specs.Ranked.{symbols_under}
+use Rattle.dz_terms.proofs.SymbolLaws.{ranking_order}
 
 same_keys : {M : Type 0} (ts : List (M × ℤ)) → map (λ t. t.0) (amounts ts) ≡ map (λ t. t.0) ts
 same_keys [] = refl

@@ -2,9 +2,10 @@
 use Rattle.std.proofs.Common.{◌≡◌, ◌<◌, ◌∙◌, ap, subst, refl, ℕ, ◌+◌, [], ◌∷◌, ◌++◌, length, take, Ok, arith}
 use Rattle.dz_algebra.specs.Polynomial.{polynomial_negative}
 use Rattle.dz_algebra.specs.Size.{difference_answer}
-use Rattle.dz_poly.specs.Books.{BookValue, Gives, IsBook, IsKept, IsStop, Means, polynomial}
-use Rattle.dz_poly.specs.declared.PolyStop.{PolyStop}
-use Rattle.dz_poly.specs.Ranked.{symbols_under}
+use Rattle.dz_poly.specs.Books.{BookValue, Gives, IsBook, IsKept, Means, polynomial}
+use Rattle.dz_terms.specs.Stops.{IsStop}
+use Rattle.dz_terms.specs.declared.PolyStop.{PolyStop}
+use Rattle.dz_terms.specs.Ranked.{symbols_under}
 use Rattle.dz_poly.proofs.Books.{kept_trans}
 use Rattle.dz_syntax.specs.declared.expression.Op.TheVariants as ops
 use Rattle.dz_form.specs.Values.{GivesValues, step_answer, values_in}

@@ -9,8 +9,9 @@ use Rattle.std.proofs.lemmas.List.{reverse-append, take_all, take_more, take-tak
 use Rattle.dz_algebra.specs.Polynomial.{Polynomial}
 use Rattle.dz_algebra.specs.Size.{Refusal}
 use Rattle.dz_rank.specs.declared.symbols.Symbol.{Symbol}
-use Rattle.dz_poly.specs.Books.{BookValue, Gives, IsAdded, IsKept, IsStop, Means, polynomial}
-use Rattle.dz_poly.specs.declared.PolyStop.{PolyStop}
+use Rattle.dz_poly.specs.Books.{BookValue, Gives, IsAdded, IsKept, Means, polynomial}
+use Rattle.dz_terms.specs.Stops.{IsStop}
+use Rattle.dz_terms.specs.declared.PolyStop.{PolyStop}
 use Rattle.dz_form.specs.Values.{GivesValues, Polynomials, onto, values_in}
 
 -- the polynomial that a number means

@@ -15,11 +15,11 @@ use Rattle.dz_algebra.specs.Symbols.{Symbols}
 use Rattle.dz_rank.specs.declared.symbols.Symbol.{Symbol}
 use Rattle.dz_rank.specs.Rankings.{RankingValue, ranking_cmp}
 use Rattle.dz_rank.specs.Symbols.{BelongsTo, total_order}
-use Rattle.dz_poly.specs.Books.{IsKeepable}
-use Rattle.dz_poly.specs.Ranked.{symbols_under}
-use Rattle.dz_poly.specs.Terms.{constant_polynomial}
-use Rattle.dz_poly.proofs.OneTerm.{power_entry}
-use Rattle.dz_poly.proofs.SymbolLaws.{ranking_order}
+use Rattle.dz_terms.specs.Entries.{IsKeepable}
+use Rattle.dz_terms.specs.Ranked.{symbols_under}
+use Rattle.dz_terms.specs.Terms.{constant_polynomial}
+use Rattle.dz_terms.proofs.OneTerm.{power_entry}
+use Rattle.dz_terms.proofs.SymbolLaws.{ranking_order}
 use Rattle.dz_syntax.specs.declared.expression.Op.{Op}
 use Rattle.dz_syntax.specs.declared.expression.Op.TheVariants as ops
 use Rattle.dz_form.specs.Steps.{factor_steps, more_terms_steps, polynomial_steps, power_steps, term_steps}

@@ -7,10 +7,11 @@ use Rattle.dz_algebra.specs.Polynomial.{Polynomial}
 use Rattle.dz_algebra.specs.Size.{Refusal, product_answer}
 use Rattle.dz_algebra.specs.Symbols.{Symbols}
 use Rattle.dz_rank.specs.declared.symbols.Symbol.{Symbol}
-use Rattle.dz_poly.specs.Books.{BookValue, Gives, IsKept, IsStop, Lives, Means, polynomial}
-use Rattle.dz_poly.specs.declared.PolyStop.{PolyStop}
-use Rattle.dz_poly.specs.Terms.{constant_polynomial}
-use Rattle.dz_poly.specs.Ranked.{symbols_under}
+use Rattle.dz_poly.specs.Books.{BookValue, Gives, IsKept, Lives, Means, polynomial}
+use Rattle.dz_terms.specs.Stops.{IsStop}
+use Rattle.dz_terms.specs.declared.PolyStop.{PolyStop}
+use Rattle.dz_terms.specs.Terms.{constant_polynomial}
+use Rattle.dz_terms.specs.Ranked.{symbols_under}
 use Rattle.dz_poly.proofs.Books.{IsKept-append, kept_trans}
 use Rattle.dz_form.proofs.Stacks.{kept_polynomial, means_polynomial}
 use Rattle.dz_form.specs.Values.{◌>>=◌, Polynomials, power_answer, times}

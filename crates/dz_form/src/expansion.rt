@@ -5,7 +5,7 @@
 
 ghost use Rattle.std.specs.Prelude.{◌≡◌, ◌<◌, ◌≤◌, ⊤, reverse, length, IfOk, OnErr, OnOk};
 ghost use Rattle.dz_poly.specs.Books.{Gives, IsAdded, IsKept, Lives, polynomial};
-ghost use Rattle.dz_poly.specs.Ranked.{symbols_under};
+ghost use Rattle.dz_terms.specs.Ranked.{symbols_under};
 ghost use Rattle.dz_syntax.specs.Postfix.{IsExpression, IsStep};
 ghost use Rattle.dz_syntax.specs.declared.expression.Op.TheVariants as ops;
 ghost use Rattle.dz_form.specs.Values.{GivesValues, HasValues, item_answer, power_answer, step_answer, times, values_in};

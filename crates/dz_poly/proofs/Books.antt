@@ -7,9 +7,10 @@ use Rattle.dz_rank.specs.declared.symbols.Symbol.{Symbol}
 use Rattle.dz_rank.specs.Rankings.{RankingValue}
 use Rattle.std.specs.Prelude.{All}
 use Rattle.std.proofs.lemmas.List.Elements.{All-map, All-set, All-weaker}
-use Rattle.dz_poly.specs.declared.entry.Entry.{Entry}
-use Rattle.dz_poly.specs.Books.{BookValue, IsKept, IsBook, IsKeepable}
-use Rattle.dz_poly.specs.Entries.{IsEntry}
+use Rattle.dz_terms.specs.declared.entry.Entry.{Entry}
+use Rattle.dz_poly.specs.Books.{BookValue, IsKept, IsBook}
+use Rattle.dz_terms.specs.Entries.{IsKeepable}
+use Rattle.dz_terms.specs.Entries.{IsEntry}
 
 slice_get-append : {X : Type 0} (xs ys : List X) (p : ℕ) → p < length xs → slice_get (xs ++ ys) p ≡ slice_get xs p
 slice_get-append [] ys p h = absurd (omega arith)

@@ -1,10 +1,1 @@
-pub mod Ranked
 pub mod Books
-pub mod Degrees
-pub mod Cells
-pub mod Merging
-pub mod Entries
-pub mod Signs
-pub mod Supports
-pub mod Terms
-pub mod Divisions

@@ -4,18 +4,16 @@ ghost use Rattle.std.specs.Prelude.{◌≡◌, ◌≢◌, ◌≤◌, ◌++◌, p
 ghost use Rattle.dz_algebra.specs.Amount.{greatest};
 ghost use Rattle.dz_algebra.specs.Size.{operation, sum_answer, difference_answer, product_answer};
 ghost use Rattle.dz_poly.specs.Books.{Gives, IsAdded, IsKept, Lives, polynomial};
-ghost use Rattle.dz_poly.specs.Ranked.{symbols_under};
-ghost use Rattle.dz_poly.specs.Signs.{with_sign};
-ghost use Rattle.dz_poly.specs.Terms.{power_term};
+ghost use Rattle.dz_terms.specs.Ranked.{symbols_under};
+ghost use Rattle.dz_terms.specs.Signs.{with_sign};
+ghost use Rattle.dz_terms.specs.Terms.{power_term};
 ghost use Rattle.dz_rank.specs.Symbols.{BelongsTo};
 
 use crate::PolyStop;
 use crate::book::{Book, Poly};
-use crate::factors::factor;
 use crate::making::zero;
-use crate::products::product;
-use crate::sums::{Sign, sum};
 use dz_rank::Symbol;
+use dz_terms::{Sign, factor, product, sum};
 
 /// The sum of two polynomials, the second taken with a sign.
 fn keep_sum(book: &mut Book, a: Poly, sign: Sign, b: Poly) -> Result<Poly, PolyStop>
@@ -37,7 +35,7 @@ fn keep_sum(book: &mut Book, a: Poly, sign: Sign, b: Poly) -> Result<Poly, PolyS
     Ok(book.keep(sum)?)
 }
 
-#[tactic(auto, using(crate::proofs::Summing::plus_same))]
+#[tactic(auto, using(dz_terms::proofs::Summing::plus_same))]
 /// The sum.
 pub fn add(book: &mut Book, a: Poly, b: Poly) -> Result<Poly, PolyStop>
     requires first { Lives book.old a }
@@ -51,7 +49,7 @@ pub fn add(book: &mut Book, a: Poly, b: Poly) -> Result<Poly, PolyStop>
     keep_sum(book, a, Sign::Plus, b)
 }
 
-#[tactic(auto, using(crate::proofs::Summing::minus_negates))]
+#[tactic(auto, using(dz_terms::proofs::Summing::minus_negates))]
 /// The difference.
 pub fn sub(book: &mut Book, a: Poly, b: Poly) -> Result<Poly, PolyStop>
     requires first { Lives book.old a }
@@ -84,7 +82,7 @@ pub fn mul(book: &mut Book, a: Poly, b: Poly) -> Result<Poly, PolyStop>
     Ok(book.keep(product)?)
 }
 
-#[tactic(auto, using(crate::proofs::Multiplying::times_zero, crate::proofs::Multiplying::order_refused,))]
+#[tactic(auto, using(dz_terms::proofs::Multiplying::times_zero, dz_terms::proofs::Multiplying::order_refused,))]
 /// The product with `c * s^k`, where `c` is in range and not zero.
 pub fn mul_term(book: &mut Book, a: Poly, c: i128, s: Symbol, k: u16) -> Result<Poly, PolyStop>
     requires lives { Lives book.old a }

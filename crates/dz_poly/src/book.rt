@@ -2,8 +2,8 @@
 
 ghost use Rattle.std.specs.Prelude.{◌≡◌};
 
-use crate::entry::Entry;
 use dz_rank::Ranking;
+use dz_terms::Entry;
 use std::alloc::{AllocError, Global};
 use std::marker::Model;
 
@@ -54,7 +54,7 @@ pub struct Book {
 impl Model for Book {
     ghost use Rattle.std.specs.Prelude.{map, All};
     ghost use Rattle.dz_poly.specs.Books.{BookValue};
-    ghost use Rattle.dz_poly.specs.Entries.{IsEntry};
+    ghost use Rattle.dz_terms.specs.Entries.{IsEntry};
 
     ghost Value = { BookValue };
 
@@ -72,7 +72,7 @@ impl Book {
     ghost use Rattle.std.specs.Prelude.{IfOk, OnOk, OnErr};
     ghost use Rattle.dz_poly.specs.Books.{BookValue, IsAdded, IsBook, IsKept, Lives, Means};
     ghost use Rattle.dz_poly.specs.Books.{polynomial};
-    ghost use Rattle.dz_poly.specs.Entries.{IsEntry};
+    ghost use Rattle.dz_terms.specs.Entries.{IsEntry};
 
     /// A book without polynomials.
     pub fn new(alloc: Global, ranking: Ranking) -> Book
@@ -152,12 +152,13 @@ impl Book {
         Poly { index: mark.count }
     }
 
-    pub(crate) fn allocator(&self) -> Global {
+    /// The allocator that was handed to `new`.
+    pub fn allocator(&self) -> Global {
         self.alloc
     }
 
     /// What the book keeps of a polynomial.
-    pub(crate) fn entry(&self, p: Poly) -> &Entry
+    pub fn entry(&self, p: Poly) -> &Entry
         requires { Lives self.now p }
         ensures means { Means self.now p result.now.terms.items }
         ensures value { result.now.terms.items ≡ polynomial self.now p }
@@ -167,7 +168,7 @@ impl Book {
     }
 
     /// Puts a polynomial behind the others.
-    pub(crate) fn keep(&mut self, entry: Entry) -> Result<Poly, AllocError>
+    pub fn keep(&mut self, entry: Entry) -> Result<Poly, AllocError>
         requires { IsEntry self.old.ranking entry.terms.items entry.degrees.items }
         ensures ok { IfOk result (λ p. Means self.new p entry.terms.items) }
         ensures kept { OnOk result (IsKept self.old self.new) }

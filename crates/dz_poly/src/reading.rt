@@ -8,12 +8,10 @@ ghost use Rattle.dz_poly.specs.Books.{Lives, polynomial, symbols_of, term_at};
 ghost use Rattle.dz_rank.specs.Rankings.{ranking_cmp};
 
 use crate::book::{Book, Poly};
-use crate::powers::{compare_monomials, exponent_of};
-use crate::term::Term;
-use dz_rank::{Ranking, Symbol};
-use std::cmp::Ordering;
+use dz_rank::Symbol;
+use dz_terms::{exponent_of, same_terms};
 
-#[tactic(auto, using(crate::proofs::ReadingBooks::table_is_monomial, crate::proofs::ReadingBooks::degree_stands,))]
+#[tactic(auto, using(dz_terms::proofs::EntryFacts::table_is_monomial, dz_terms::proofs::EntryFacts::degree_stands,))]
 /// The degree in a symbol, 0 where it does not occur.
 pub fn degree_in(book: &Book, a: Poly, s: Symbol) -> u16
     requires { Lives book.now a }
@@ -57,7 +55,7 @@ pub fn coefficient_at(book: &Book, a: Poly, k: usize) -> i128
     book.entry(a).terms[k].coefficient()
 }
 
-#[tactic(auto, using(crate::proofs::ReadingBooks::term_is_monomial))]
+#[tactic(auto, using(dz_terms::proofs::EntryFacts::term_is_monomial))]
 /// The exponent of a symbol in the term at a position, 0 where it does not occur.
 pub fn exponent_at(book: &Book, a: Poly, k: usize, s: Symbol) -> u16
     requires lives { Lives book.now a }
@@ -85,36 +83,6 @@ pub fn power_at(book: &Book, a: Poly, k: usize, j: usize) -> (Symbol, u16)
     ensures { slice_get (term_at (polynomial book.now a) k).0 j ≡ Some result }
 {
     book.entry(a).terms[k].powers()[j]
-}
-
-#[tactic(auto, using(crate::proofs::ReadingBooks::same_pair, crate::proofs::ReadingBooks::other_pair))]
-/// Whether two terms are equal.
-fn same_term(ranking: &Ranking, a: &Term, b: &Term) -> bool
-    ensures { IsTrue result ↔ (a.now ≡ b.now) }
-{
-    if a.coefficient() != b.coefficient() {
-        return false;
-    }
-    match compare_monomials(ranking, a.powers(), b.powers()) {
-        Ordering::Equal => true,
-        _ => false,
-    }
-}
-
-#[tactic(auto, using(crate::proofs::ReadingBooks::other_term, crate::proofs::ReadingBooks::other_length, crate::proofs::ReadingBooks::all_same,))]
-/// Whether two lists of terms are equal.
-fn same_terms(ranking: &Ranking, a: &[Term], b: &[Term]) -> bool
-    ensures { IsTrue result ↔ (a.now ≡ b.now) }
-{
-    if a.len() != b.len() {
-        return false;
-    }
-    for i in 0..a.len() {
-        if !same_term(ranking, &a[i], &b[i]) {
-            return false;
-        }
-    }
-    true
 }
 
 /// Whether two polynomials are equal.

@@ -8,8 +8,8 @@ use Rattle.dz_algebra.specs.Monomial.{monomial_cmp}
 use Rattle.dz_algebra.specs.Polynomial.{Polynomial}
 use Rattle.dz_rank.specs.Rankings.{RankingValue, ranking_cmp}
 use Rattle.dz_rank.specs.declared.symbols.Symbol.{Symbol}
-use Rattle.dz_poly.specs.Ranked.{symbols_under}
-use Rattle.dz_poly.proofs.ReadingBooks.{other_pair, same_pair}
+use Rattle.dz_terms.specs.Ranked.{symbols_under}
+use Rattle.dz_terms.proofs.SameTerms.{other_pair, same_pair}
 use Rattle.dz_run.specs.Root.{is_equal, same, same_whole}
 
 -- a number is equal to itself

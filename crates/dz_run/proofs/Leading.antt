@@ -15,8 +15,8 @@ use Rattle.dz_rank.specs.declared.symbols.Symbol.TheVariants.{Independent, Deriv
 use Rattle.dz_domain.proofs.PointValues.{keepable}
 use Rattle.dz_poly.specs.Books.{BookValue, IsBook, Lives, polynomial, symbols_of, term_at}
 use Rattle.dz_run.specs.Root.{is_one}
-use Rattle.dz_poly.specs.Ranked.{symbols_under}
-use Rattle.dz_poly.proofs.SymbolLaws.{ranking_order}
+use Rattle.dz_terms.specs.Ranked.{symbols_under}
+use Rattle.dz_terms.proofs.SymbolLaws.{ranking_order}
 
 -- a derivative is greater than an independent
 above : (r : RankingValue) (s t : Symbol) → is_derivative s ≡ true → is_derivative t ≡ false → ranking_cmp r s t ≡ Greater

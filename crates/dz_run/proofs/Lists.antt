@@ -16,7 +16,7 @@ use Rattle.dz_syntax.specs.declared.expression.Op.{Op}
 use Rattle.dz_syntax.specs.Systems.{Tree}
 use Rattle.dz_run.specs.declared.system.Group.{Group}
 use Rattle.dz_run.specs.declared.system.Refused.{Refused}
-use Rattle.dz_poly.specs.Ranked.{symbols_under}
+use Rattle.dz_terms.specs.Ranked.{symbols_under}
 use Rattle.dz_run.specs.declared.system.Group.TheVariants.{Equation, Inequation}
 use Rattle.dz_run.specs.Root.{is_dropped, is_member, kept_norms, root_of}
 use Rattle.dz_run.specs.System.{GivesAll, GivesNumbered, LiveAll, MeanAll, before, behind, items_answer, numbered, polynomials, ranking_of, System, system_answer, terms_of, within_limits}

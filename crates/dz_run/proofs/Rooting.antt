@@ -7,7 +7,7 @@ use Rattle.dz_algebra.specs.Polynomial.{Polynomial}
 use Rattle.dz_algebra.specs.Symbols.{Symbols}
 use Rattle.dz_rank.specs.declared.symbols.Symbol.{Symbol}
 use Rattle.dz_poly.specs.Books.{BookValue, polynomial}
-use Rattle.dz_poly.specs.Ranked.{symbols_under}
+use Rattle.dz_terms.specs.Ranked.{symbols_under}
 use Rattle.dz_run.proofs.EqualTests.{other_not_same, same_itself}
 use Rattle.dz_run.specs.Root.{has_unit, has_zero, is_member, is_unit, is_zero, same}
 use Rattle.dz_run.specs.System.{polynomials}

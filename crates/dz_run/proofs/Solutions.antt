@@ -9,7 +9,7 @@ use Rattle.dz_algebra.specs.Size.{Refusal, wide, large}
 use Rattle.dz_algebra.specs.declared.Limit.TheVariants as limits
 use Rattle.dz_domain.specs.Point.{Coordinates, IsPoint}
 use Rattle.dz_form.specs.Values.{◌>>=◌, Polynomials, item_answer}
-use Rattle.dz_poly.specs.Ranked.{symbols_under}
+use Rattle.dz_terms.specs.Ranked.{symbols_under}
 use Rattle.dz_rank.specs.Rankings.{RankingValue}
 use Rattle.dz_rank.specs.declared.symbols.Symbol.{Symbol}
 use Rattle.dz_syntax.specs.declared.endings.Form.TheVariants.{Plain}

@@ -18,8 +18,8 @@ use Rattle.dz_domain.specs.Point.{Coordinates, FitsSignature, IsPoint, symbol_va
 use Rattle.dz_domain.proofs.Points.{symbol_is_value}
 use Rattle.dz_domain.proofs.PointValues.{ground_value}
 use Rattle.dz_form.specs.Values.{Polynomials}
-use Rattle.dz_poly.specs.Ranked.{symbols_under}
-use Rattle.dz_poly.proofs.SymbolLaws.{ranking_order}
+use Rattle.dz_terms.specs.Ranked.{symbols_under}
+use Rattle.dz_terms.proofs.SymbolLaws.{ranking_order}
 use Rattle.dz_rank.specs.Rankings.{RankingValue, ranking_cmp}
 use Rattle.dz_rank.specs.Symbols.{BelongsTo}
 use Rattle.dz_rank.specs.declared.symbols.Symbol.{Symbol}

@@ -1,7 +1,7 @@
 -- What the program answers to its words and its input.
 use Rattle.std.specs.Prelude.{ℕ, Bool, false, nat_le, if◌then◌else◌, List, [], ◌∷◌, map, codes, Option, Some, None, Result, Ok, Err}
 use Rattle.std.specs.Str.{bytes_eq}
-use Rattle.dz_poly.specs.Ranked.{symbols_under}
+use Rattle.dz_terms.specs.Ranked.{symbols_under}
 use Rattle.dz_form.specs.Texts.{polynomial_text}
 use Rattle.dz_syntax.specs.declared.endings.Form.TheVariants.{Plain}
 use Rattle.dz_syntax.specs.declared.fault.SyntaxFault.{SyntaxFault}

@@ -2,7 +2,7 @@
 ghost use Rattle.std.specs.Prelude.{◌≡◌, [], ◌∷◌, IfOk, OnOk, Some};
 ghost use Rattle.dz_algebra.specs.Parts.{is_ground, leader};
 ghost use Rattle.dz_poly.specs.Books.{IsKept, Lives, polynomial};
-ghost use Rattle.dz_poly.specs.Ranked.{symbols_under};
+ghost use Rattle.dz_terms.specs.Ranked.{symbols_under};
 ghost use Rattle.dz_rank.specs.Symbols.{is_derivative};
 ghost use Rattle.dz_run.specs.Root.{TreeLives, is_dropped, is_linear, is_linear_in, is_member, is_one, is_unit, is_zero};
 ghost use Rattle.dz_run.specs.Root.{has_unit, has_zero, kept_norms, root_of, tree_in, tree_of_root};

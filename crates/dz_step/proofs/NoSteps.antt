@@ -17,8 +17,8 @@ use Rattle.dz_rank.specs.Symbols.{derivative_by, exponent_sums, is_derivative}
 use Rattle.dz_rank.specs.declared.symbols.Operator.{Operator}
 use Rattle.dz_rank.specs.declared.symbols.Symbol.{Symbol}
 use Rattle.dz_rank.specs.declared.symbols.Symbol.TheVariants.{Independent, Derivative}
-use Rattle.dz_poly.specs.Ranked.{symbols_under}
-use Rattle.dz_poly.proofs.SymbolLaws.{ranking_order}
+use Rattle.dz_terms.specs.Ranked.{symbols_under}
+use Rattle.dz_terms.proofs.SymbolLaws.{ranking_order}
 use Rattle.dz_diff.specs.Outcome.{◌>>=◌, needs, given}
 use Rattle.dz_diff.specs.Lists.{AllOf}
 use Rattle.dz_diff.specs.Operators.{divides, exponent_differences, is_proper, quotient}

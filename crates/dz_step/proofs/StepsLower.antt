@@ -21,8 +21,8 @@ use Rattle.dz_rank.specs.Symbols.{IsOperatorOf, derivative_by, is_derivative}
 use Rattle.dz_rank.specs.declared.symbols.Operator.{Operator}
 use Rattle.dz_rank.specs.declared.symbols.Symbol.{Symbol}
 use Rattle.dz_rank.specs.declared.symbols.Symbol.TheVariants.{Independent, Derivative}
-use Rattle.dz_poly.specs.Ranked.{symbols_under}
-use Rattle.dz_poly.proofs.SymbolLaws.{ranking_order}
+use Rattle.dz_terms.specs.Ranked.{symbols_under}
+use Rattle.dz_terms.proofs.SymbolLaws.{ranking_order}
 use Rattle.dz_diff.specs.Operators.{is_proper}
 use Rattle.dz_diff.specs.Operations.{operator_answer, setting_of}
 use Rattle.dz_diff.proofs.MarkedSums.{EachMonomial, Free, exponent_free}

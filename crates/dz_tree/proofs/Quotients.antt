@@ -7,7 +7,7 @@ use Rattle.dz_algebra.proofs.Inside.{in_with_power, in_without, occurs}
 use Rattle.dz_algebra.proofs.Monomials.{with_power_is}
 use Rattle.dz_rank.specs.Rankings.{RankingValue, ranking_cmp}
 use Rattle.dz_rank.specs.declared.symbols.Symbol.{Symbol}
-use Rattle.dz_poly.proofs.SymbolLaws.{ranking_order}
+use Rattle.dz_terms.proofs.SymbolLaws.{ranking_order}
 use Rattle.dz_diff.proofs.Goodness.{Good, Goods, InRange, good_terms, good_collected}
 use Rattle.dz_tree.specs.Division.{with_exponent, divided_by, quotient_by}
 

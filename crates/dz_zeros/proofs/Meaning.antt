@@ -19,8 +19,8 @@ use Rattle.dz_algebra.proofs.Values.{collect_value, negated_value, pairs_value, 
 use Rattle.dz_rank.specs.Rankings.{RankingValue, ranking_cmp}
 use Rattle.dz_rank.specs.declared.symbols.Operator.{Operator}
 use Rattle.dz_rank.specs.declared.symbols.Symbol.{Symbol}
-use Rattle.dz_poly.specs.Ranked.{symbol_rate, symbols_under}
-use Rattle.dz_poly.proofs.SymbolLaws.{ranking_order}
+use Rattle.dz_terms.specs.Ranked.{symbol_rate, symbols_under}
+use Rattle.dz_terms.proofs.SymbolLaws.{ranking_order}
 use Rattle.dz_diff.specs.Operations.{iterated_answer, derivations_answer, operator_answer, setting_of}
 use Rattle.dz_diff.specs.Tests.{is_unit}
 use Rattle.dz_diff.proofs.Answers.{bind_ok, both}

@@ -4,8 +4,8 @@ use Rattle.dz_algebra.specs.Norm.{norm}
 use Rattle.dz_algebra.specs.Polynomial.{Polynomial}
 use Rattle.dz_rank.specs.Rankings.{RankingValue}
 use Rattle.dz_rank.specs.declared.symbols.Symbol.{Symbol}
-use Rattle.dz_poly.specs.Ranked.{symbols_under}
-use Rattle.dz_poly.proofs.SymbolLaws.{ranking_order}
+use Rattle.dz_terms.specs.Ranked.{symbols_under}
+use Rattle.dz_terms.proofs.SymbolLaws.{ranking_order}
 use Rattle.dz_diff.specs.Lists.{AllOf, SomeOf}
 use Rattle.dz_diff.specs.Tests.{Polynomials, is_unit, is_zero, is_member}
 use Rattle.dz_diff.specs.Operations.{setting_of}

@@ -9,8 +9,8 @@ use Rattle.dz_algebra.proofs.Norms.{value_divided, Divides, divides_more, conten
 use Rattle.dz_rank.specs.Rankings.{RankingValue, ranking_cmp}
 use Rattle.dz_rank.specs.Symbols.{derivative_by}
 use Rattle.dz_rank.specs.declared.symbols.Symbol.{Symbol}
-use Rattle.dz_poly.specs.Ranked.{symbols_under}
-use Rattle.dz_poly.proofs.SymbolLaws.{ranking_order}
+use Rattle.dz_terms.specs.Ranked.{symbols_under}
+use Rattle.dz_terms.proofs.SymbolLaws.{ranking_order}
 use Rattle.dz_diff.specs.Outcome.{numbered}
 use Rattle.dz_diff.specs.Lists.{AllOf}
 use Rattle.dz_diff.specs.Tests.{Polynomials, is_unit, is_member}

@@ -2,7 +2,7 @@
 use Rattle.std.specs.Prelude.{⊤}
 use Rattle.std.proofs.Common.{◌≡◌, ◌⊎◌, inl, inr, ℕ, ◌+◌, nat_le, List, [], ◌∷◌, ◌++◌, length, refl, subst, Result, Ok, Err}
 use Rattle.dz_rank.specs.Rankings.{RankingValue}
-use Rattle.dz_poly.specs.Ranked.{symbols_under}
+use Rattle.dz_terms.specs.Ranked.{symbols_under}
 use Rattle.dz_diff.specs.Outcome.{◌>>=◌, needs, told_as}
 use Rattle.dz_diff.specs.Lists.{AllOf, SomeOf}
 use Rattle.dz_diff.specs.Operations.{setting_of}

@@ -12,8 +12,8 @@ use Rattle.dz_rank.specs.Rankings.{RankingValue, ranking_cmp}
 use Rattle.dz_rank.specs.Symbols.{BelongsTo}
 use Rattle.dz_rank.specs.declared.symbols.Symbol.{Symbol}
 use Rattle.dz_rank.specs.declared.symbols.Symbol.TheVariants.{Independent, Derivative}
-use Rattle.dz_poly.specs.Ranked.{symbol_rate, symbols_under}
-use Rattle.dz_poly.proofs.SymbolLaws.{ranking_order}
+use Rattle.dz_terms.specs.Ranked.{symbol_rate, symbols_under}
+use Rattle.dz_terms.proofs.SymbolLaws.{ranking_order}
 use Rattle.dz_domain.specs.Point.{Coordinates, IsPoint, FitsSignature, symbol_value}
 use Rattle.dz_domain.proofs.Points.{symbol_is_value}
 use Rattle.dz_domain.proofs.PointValues.{ground_value, value_of_derivative}

@@ -4,7 +4,7 @@ use Rattle.dz_algebra.specs.Domain.{Operations}
 use Rattle.dz_algebra.specs.Polynomial.{Polynomial}
 use Rattle.dz_rank.specs.Rankings.{RankingValue}
 use Rattle.dz_rank.specs.declared.symbols.Symbol.{Symbol}
-use Rattle.dz_poly.specs.Ranked.{symbols_under}
+use Rattle.dz_terms.specs.Ranked.{symbols_under}
 use Rattle.dz_domain.specs.Point.{Coordinates}
 use Rattle.dz_diff.specs.Lists.{SomeOf}
 use Rattle.dz_diff.specs.Operations.{setting_of}

@@ -1,5 +1,5 @@
 use Rattle.std.proofs.Common.{◌≡◌, ◌++◌, [], Some, drop, length}
-use Rattle.dz_poly.specs.Ranked.{symbols_under}
+use Rattle.dz_terms.specs.Ranked.{symbols_under}
 use Rattle.dz_syntax.specs.Postfix.{values_after}
 use Rattle.dz_form.specs.Values.{Polynomials, steps_answer, values_in}
 use Rattle.dz_form.proofs.expansion.expand.Given as goal

@@ -1,7 +1,7 @@
 use Rattle.std.proofs.Common.{rules, subst, Ok}
 use Rattle.std.proofs.lemmas.Result.{err_from_is_err_and}
 use Rattle.dz_poly.specs.Books.{Gives, polynomial}
-use Rattle.dz_poly.specs.Ranked.{symbols_under}
+use Rattle.dz_terms.specs.Ranked.{symbols_under}
 use Rattle.dz_form.proofs.Times.{one_power, power_is}
 use Rattle.dz_form.proofs.expansion.power.Goals as goal
 

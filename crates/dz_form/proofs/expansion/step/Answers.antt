@@ -1,6 +1,6 @@
 use Rattle.std.proofs.Common.{subst}
 use Rattle.dz_poly.specs.Books.{Means}
-use Rattle.dz_poly.specs.Terms.{constant_polynomial}
+use Rattle.dz_terms.specs.Terms.{constant_polynomial}
 use Rattle.dz_syntax.specs.Postfix.{IsStep}
 use Rattle.dz_form.proofs.Stacks.{number_stays, pushed}
 use Rattle.dz_form.proofs.expansion.step.Goals as goal

@@ -1,6 +1,6 @@
 use Rattle.std.proofs.Common.{refl}
 use Rattle.dz_algebra.specs.Size.{difference_answer}
-use Rattle.dz_poly.specs.Ranked.{symbols_under}
+use Rattle.dz_terms.specs.Ranked.{symbols_under}
 use Rattle.dz_syntax.specs.declared.expression.Op.TheVariants as ops
 use Rattle.dz_form.specs.Values.{step_answer}
 use Rattle.dz_form.proofs.Stacks.{two_replaced}

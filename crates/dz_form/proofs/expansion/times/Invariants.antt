@@ -2,7 +2,7 @@ use Rattle.std.proofs.Common.{◌≡◌, ◌≤◌, ◌-◌, length}
 use Rattle.dz_algebra.specs.Polynomial.{Polynomial}
 use Rattle.dz_rank.specs.declared.symbols.Symbol.{Symbol}
 use Rattle.dz_poly.specs.Books.{IsKept, Means, polynomial}
-use Rattle.dz_poly.specs.Ranked.{symbols_under}
+use Rattle.dz_terms.specs.Ranked.{symbols_under}
 use Rattle.dz_form.specs.Values.{times}
 use Rattle.dz_form.proofs.expansion.times.Given as goal
 

@@ -1,5 +1,5 @@
 use Rattle.std.proofs.Common.{Ok}
-use Rattle.dz_poly.specs.Ranked.{symbols_under}
+use Rattle.dz_terms.specs.Ranked.{symbols_under}
 use Rattle.dz_form.proofs.PolynomialTexts.{refusal_read, text_gives, text_refused, value_read}
 use Rattle.dz_form.proofs.polynomials.read_poly.Goals as goal
 

@@ -1,7 +1,7 @@
 use Rattle.std.proofs.Common.{◌≡◌, ◌==◌, false, length, rules, arith}
 use Rattle.std.proofs.lemmas.Grind.{common_steps}
 use Rattle.std.proofs.lemmas.Result.{err_from_is_err_and}
-use Rattle.dz_poly.proofs.Multiplying.{order_refused, not_empty}
+use Rattle.dz_terms.proofs.Multiplying.{order_refused, not_empty}
 use Rattle.dz_poly.proofs.arithmetic.mul_term.Goals as goal
 
 pub returns-in_err-factor-clause-product : goal.returns-in_err-factor-clause-product

@@ -1,8 +1,8 @@
 use Rattle.std.proofs.Common.{◌≡◌, ◌==◌, false, length, sym, subst, rules, arith}
 use Rattle.std.proofs.lemmas.Grind.{common_steps}
-use Rattle.dz_poly.specs.Divisions.{DividesAll}
-use Rattle.dz_poly.proofs.Divisibility.{divisor_in_range, quotient_entry}
-use Rattle.dz_poly.proofs.Multiplying.{not_empty}
+use Rattle.dz_terms.specs.Divisions.{DividesAll}
+use Rattle.dz_terms.proofs.Divisibility.{divisor_in_range, quotient_entry}
+use Rattle.dz_terms.proofs.Multiplying.{not_empty}
 use Rattle.dz_poly.proofs.dividing.exact_div_int.Goals as goal
 
 pub divided_entry-requires-clause-in_range : goal.divided_entry-requires-clause-in_range

@@ -2,9 +2,9 @@ use Rattle.std.proofs.Common.{◌≡◌, ◌==◌, ◌∙◌, false, length, pos
 use Rattle.std.proofs.lemmas.Grind.{common_steps}
 use Rattle.std.specs.Prelude.{Some}
 use Rattle.dz_algebra.specs.Norm.{content, signed_content}
-use Rattle.dz_poly.specs.Signs.{signed}
-use Rattle.dz_poly.proofs.Divisibility.{content_positive_in_range, norm_entry, norm_value, norm_of_nothing}
-use Rattle.dz_poly.proofs.Multiplying.{not_empty}
+use Rattle.dz_terms.specs.Signs.{signed}
+use Rattle.dz_terms.proofs.Divisibility.{content_positive_in_range, norm_entry, norm_value, norm_of_nothing}
+use Rattle.dz_terms.proofs.Multiplying.{not_empty}
 use Rattle.dz_poly.proofs.dividing.normalise.Goals as goal
 
 pub returns-then-is_empty-clause-value : goal.returns-then-is_empty-clause-value

@@ -1,6 +1,6 @@
 use Rattle.std.proofs.Common.{◌≡◌, drop}
 use Rattle.dz_poly.specs.Books.{polynomial}
-use Rattle.dz_poly.specs.Ranked.{symbols_under}
+use Rattle.dz_terms.specs.Ranked.{symbols_under}
 use Rattle.dz_run.specs.Root.{is_member}
 use Rattle.dz_run.specs.System.{polynomials}
 use Rattle.dz_run.proofs.root.is_member.Given as goal

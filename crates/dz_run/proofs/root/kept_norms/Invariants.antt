@@ -1,6 +1,6 @@
 use Rattle.std.proofs.Common.{◌≡◌, [], drop}
 use Rattle.dz_poly.specs.Books.{IsKept}
-use Rattle.dz_poly.specs.Ranked.{symbols_under}
+use Rattle.dz_terms.specs.Ranked.{symbols_under}
 use Rattle.dz_run.specs.Root.{kept_norms}
 use Rattle.dz_run.specs.System.{LiveAll, polynomials}
 use Rattle.dz_run.proofs.root.kept_norms.Given as goal

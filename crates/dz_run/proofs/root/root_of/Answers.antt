@@ -1,5 +1,5 @@
 use Rattle.std.proofs.Common.{[], List, ℕ, subst}
-use Rattle.dz_poly.specs.Ranked.{symbols_under}
+use Rattle.dz_terms.specs.Ranked.{symbols_under}
 use Rattle.dz_run.specs.declared.system.Group.TheVariants.{Equation, Inequation}
 use Rattle.dz_run.specs.Root.{kept_norms}
 use Rattle.dz_run.specs.System.{MeanAll, polynomials}

@@ -1,7 +1,7 @@
 use Rattle.std.proofs.Common.{subst, sym}
 use Rattle.std.proofs.lemmas.List.{map-append}
 use Rattle.std.proofs.lemmas.List.Elements.{All-push}
-use Rattle.dz_poly.specs.Entries.{IsEntry}
+use Rattle.dz_terms.specs.Entries.{IsEntry}
 use Rattle.dz_poly.proofs.Books.{IsKept-append}
 use Rattle.dz_poly.proofs.book.Book.keep.Goals as goal
 

@@ -1,7 +1,7 @@
 use Rattle.std.proofs.Common.{refl}
 use Rattle.std.proofs.lemmas.List.{take-map}
 use Rattle.std.proofs.lemmas.List.Elements.{All-take}
-use Rattle.dz_poly.specs.Entries.{IsEntry}
+use Rattle.dz_terms.specs.Entries.{IsEntry}
 use Rattle.dz_poly.proofs.book.Book.restore.Goals as goal
 
 pub invariant_of-self : goal.invariant_of-self

@@ -2,7 +2,7 @@ use Rattle.std.proofs.Common.{[], ℕ, subst, sym, ap, arith, ◌<◌, ◌≤◌
 use Rattle.std.proofs.lemmas.List.{length-map}
 use Rattle.std.proofs.lemmas.List.Elements.{All-take}
 use Rattle.dz_poly.specs.Books.{BookValue}
-use Rattle.dz_poly.specs.Entries.{IsEntry}
+use Rattle.dz_terms.specs.Entries.{IsEntry}
 use Rattle.dz_poly.proofs.Books.{all_swapped, one_left}
 use Rattle.dz_poly.proofs.book.Book.restore_but.Goals as goal
 

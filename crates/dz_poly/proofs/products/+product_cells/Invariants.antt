@@ -1,5 +1,0 @@
-use Rattle.std.proofs.Common.{length}
-use Rattle.dz_poly.proofs.products.+product_cells.Given as goal
-
-abbrev pub decreases-product_cells : goal.decreases-product_cells
-decreases-product_cells l = length l.p.now

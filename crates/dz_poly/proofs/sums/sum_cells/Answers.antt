@@ -1,7 +1,0 @@
-use Rattle.std.proofs.Common.{◌∙◌}
-use Rattle.dz_poly.proofs.Summing.{merged_signs}
-use Rattle.dz_poly.proofs.SymbolLaws.{ranking_order}
-use Rattle.dz_poly.proofs.sums.sum_cells.Goals as goal
-
-pub returns : goal.returns
-returns c = c.in_ok-cells.ensures ∙ merged_signs (ranking_order c.args.ranking.now) c.args.a.now c.args.sign c.args.b.now c.requires.first c.requires.second

@@ -1,0 +1,215 @@
+//! Monomials: symbols with their exponents, the greatest symbol first.
+
+ghost use Rattle.std.specs.Prelude.{◌≡◌, ◌⊎◌, ◌+◌, ◌++◌, [], ◌∷◌, max, false, true, IsTrue, IfOk, IfErr, OnOk};
+ghost use Rattle.std.specs.Ordering.{nat_cmp, ordering_then};
+ghost use Rattle.dz_algebra.specs.Gather.{merge};
+ghost use Rattle.dz_algebra.specs.Monomial.{IsMonomial, exponent, monomial_cmp, without};
+ghost use Rattle.dz_algebra.specs.declared.Limit.TheVariants.{Exponent};
+ghost use Rattle.dz_terms.specs.Degrees.{has_high_exponent};
+ghost use Rattle.dz_terms.specs.declared.PolyStop.TheVariants.{Memory, Large};
+ghost use Rattle.dz_rank.specs.Rankings.{ranking_cmp};
+
+use crate::PolyStop;
+use dz_algebra::Limit;
+use dz_rank::{Ranking, Symbol};
+use smallvec::SmallVec;
+use std::alloc::{AllocError, Global};
+use std::cmp::Ordering;
+
+/// The powers of a monomial, kept inline where they are few.
+pub type Powers = SmallVec<(Symbol, u16), 4>;
+
+/// Whether two symbols are the same, without a look at the ranking.
+fn is_same(a: Symbol, b: Symbol) -> bool
+    ensures { IsTrue result → a ≡ b }
+{
+    match (a, b) {
+        (Symbol::Independent(i), Symbol::Independent(j)) => i == j,
+        (
+            Symbol::Derivative {
+                dependent: u,
+                operator: s,
+            },
+            Symbol::Derivative {
+                dependent: v,
+                operator: t,
+            },
+        ) => u == v && s.counts == t.counts,
+        _ => false,
+    }
+}
+
+#[tactic(auto, using(crate::proofs::MonomialPasses::equal_powers))]
+/// Compares by the symbol, and then by the exponent; most powers that are compared are equal.
+fn compare_powers(ranking: &Ranking, p: (Symbol, u16), q: (Symbol, u16)) -> Ordering
+    ensures { result ≡ ordering_then (ranking_cmp ranking.now p.0 q.0) (nat_cmp p.1 q.1) }
+{
+    if p.1 == q.1 && is_same(p.0, q.0) {
+        return Ordering::Equal;
+    }
+    ranking.compare(p.0, q.0).then(p.1.cmp(&q.1))
+}
+
+/// Compares by the exponent of the greatest symbol at which the monomials differ.
+pub fn compare_monomials(ranking: &Ranking, a: &[(Symbol, u16)], b: &[(Symbol, u16)]) -> Ordering
+    ensures { result ≡ monomial_cmp (ranking_cmp ranking.now) a.now b.now }
+{
+    let mut i = 0;
+    while i < a.len() && i < b.len() {
+        let order = compare_powers(ranking, a[i], b[i]);
+        if order != Ordering::Equal {
+            return order;
+        }
+        i += 1;
+    }
+    a.len().cmp(&b.len())
+}
+
+#[tactic(auto, using(crate::proofs::MonomialPasses::found, crate::proofs::MonomialPasses::passed, crate::proofs::MonomialPasses::skipped))]
+/// The exponent of a symbol, zero where it does not occur.
+pub fn exponent_of(ranking: &Ranking, powers: &[(Symbol, u16)], symbol: Symbol) -> u16
+    requires { IsMonomial (ranking_cmp ranking.now) powers.now }
+    ensures { result ≡ exponent (ranking_cmp ranking.now) symbol powers.now }
+{
+    let mut rest = powers;
+    while let [power, more @ ..] = rest {
+        match ranking.compare(symbol, power.0) {
+            Ordering::Less => rest = more,
+            Ordering::Equal => return power.1,
+            Ordering::Greater => return 0,
+        }
+    }
+    0
+}
+
+#[tactic(auto, using(crate::proofs::MonomialPasses::ended, crate::proofs::MonomialPasses::exceeds, crate::proofs::MonomialPasses::low_rest, crate::proofs::MonomialPasses::low_push, crate::proofs::MonomialPasses::low_end,))]
+/// The product of two monomials, where its exponents are in range.
+pub fn multiply(
+    alloc: Global,
+    ranking: &Ranking,
+    m: &[(Symbol, u16)],
+    n: &[(Symbol, u16)],
+) -> Result<Powers, PolyStop>
+    requires first { has_high_exponent m.now ≡ false }
+    requires second { has_high_exponent n.now ≡ false }
+    ensures ok { IfOk result (λ all. all.items ≡ merge (ranking_cmp ranking.now) ◌+◌ n.now m.now) }
+    ensures fits { IfOk result (λ all. has_high_exponent all.items ≡ false) }
+    ensures refused { IfErr result (λ e. (e ≡ Memory) ⊎ ((e ≡ Large Exponent)
+        × (has_high_exponent (merge (ranking_cmp ranking.now) ◌+◌ n.now m.now) ≡ true))) }
+{
+    let mut all = SmallVec::new(alloc);
+    let mut m = m;
+    let mut n = n;
+    'powers: loop {
+        match (n, m) {
+            ([], _) => {
+                all.extend_from_slice(m)?;
+                return Ok(all);
+            }
+            (_, []) => {
+                all.extend_from_slice(n)?;
+                return Ok(all);
+            }
+            ([q, ns @ ..], [p, ms @ ..]) => {
+                let power = match ranking.compare(p.0, q.0) {
+                    Ordering::Less => {
+                        n = ns;
+                        *q
+                    }
+                    Ordering::Greater => {
+                        m = ms;
+                        *p
+                    }
+                    Ordering::Equal => {
+                        let Some(exponent) = p.1.checked_add(q.1) else {
+                            return Err(PolyStop::Large(Limit::Exponent));
+                        };
+                        n = ns;
+                        m = ms;
+                        (q.0, exponent)
+                    }
+                };
+                all.push(power)?;
+            }
+        }
+    }
+}
+
+#[tactic(auto, using(crate::proofs::MonomialPasses::ended))]
+/// The least common multiple of two monomials.
+pub fn common_multiple(
+    alloc: Global,
+    ranking: &Ranking,
+    m: &[(Symbol, u16)],
+    n: &[(Symbol, u16)],
+) -> Result<Powers, AllocError>
+    ensures { IfOk result (λ all. all.items ≡ merge (ranking_cmp ranking.now) max n.now m.now) }
+{
+    let mut all = SmallVec::new(alloc);
+    let mut m = m;
+    let mut n = n;
+    'powers: loop {
+        match (n, m) {
+            ([], _) => {
+                all.extend_from_slice(m)?;
+                return Ok(all);
+            }
+            (_, []) => {
+                all.extend_from_slice(n)?;
+                return Ok(all);
+            }
+            ([q, ns @ ..], [p, ms @ ..]) => {
+                let power = match ranking.compare(p.0, q.0) {
+                    Ordering::Less => {
+                        n = ns;
+                        *q
+                    }
+                    Ordering::Greater => {
+                        m = ms;
+                        *p
+                    }
+                    Ordering::Equal => {
+                        n = ns;
+                        m = ms;
+                        (q.0, p.1.max(q.1))
+                    }
+                };
+                all.push(power)?;
+            }
+        }
+    }
+}
+
+/// Appends a power, unless it is one of the symbol.
+fn push_other(
+    ranking: &Ranking,
+    all: &mut Powers,
+    power: (Symbol, u16),
+    symbol: Symbol,
+) -> Result<(), AllocError>
+    ensures { OnOk result (all.new.items
+        ≡ all.old.items ++ without (ranking_cmp ranking.now) symbol (power ∷ [])) }
+{
+    match ranking.compare(symbol, power.0) {
+        Ordering::Equal => {}
+        _ => all.push(power)?,
+    }
+    Ok(())
+}
+
+/// The monomial without a symbol.
+pub fn without_symbol(
+    alloc: Global,
+    ranking: &Ranking,
+    powers: &[(Symbol, u16)],
+    symbol: Symbol,
+) -> Result<Powers, AllocError>
+    ensures { IfOk result (λ all.
+        all.items ≡ without (ranking_cmp ranking.now) symbol powers.now) }
+{
+    let mut all = SmallVec::new(alloc);
+    for power in powers {
+        push_other(ranking, &mut all, *power, symbol)?;
+    }
+    Ok(all)
+}
