@@ -1,7 +1,6 @@
 -- The operations on differential polynomials in a setting (Kolchin), each with its refusal.
 use Rattle.std.specs.Prelude.{ℕ, zero, suc, take, List, [], ◌∷◌, Result, Ok}
 use Rattle.std.specs.declared.cmp.Ordering.{Ordering}
-use Rattle.dz_algebra.specs.Monomial.{with_power}
 use Rattle.dz_algebra.specs.Polynomial.{Polynomial}
 use Rattle.dz_algebra.specs.Size.{Refusal, derivation_answer}
 use Rattle.dz_algebra.specs.Symbols.{Symbols}
@@ -33,9 +32,3 @@ derivations_answer g i (k ∷ ks) a = iterated_answer g i k a >>= derivations_an
 -- an operator's derivations, the first independent's first
 abbrev pub operator_answer : Setting → Operator → Polynomial Symbol → Result (Polynomial Symbol) Refusal
 operator_answer g t a = derivations_answer g.symbols 0 (take g.independents t.counts) a
-
--- a polynomial times v^k
-abbrev pub times_power : {S : Type 0} → (S → S → Ordering) → S → ℕ → Polynomial S → Polynomial S
-times_power cmp v zero p = p
-times_power cmp v (suc k) [] = []
-times_power cmp v (suc k) (t ∷ p) = (with_power cmp v (suc k) t.0, t.1) ∷ times_power cmp v (suc k) p

@@ -22,7 +22,8 @@ use Rattle.dz_terms.specs.Ranked.{symbol_rate, symbols_under}
 use Rattle.dz_terms.proofs.SymbolLaws.{ranking_order}
 use Rattle.dz_diff.specs.Lists.{AllOf}
 use Rattle.dz_diff.specs.Operators.{is_proper, divides, exponent_differences, quotient}
-use Rattle.dz_diff.specs.Operations.{iterated_answer, derivations_answer, operator_answer, setting_of, times_power}
+use Rattle.dz_diff.specs.Operations.{iterated_answer, derivations_answer, operator_answer, setting_of}
+use Rattle.dz_terms.specs.Terms.{times_power}
 use Rattle.dz_diff.specs.Over.{IsOver}
 use Rattle.dz_diff.specs.State.{State}
 use Rattle.dz_diff.proofs.Answers.{bind_ok}

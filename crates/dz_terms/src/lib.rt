@@ -21,7 +21,7 @@ mod same;
 mod sums;
 mod term;
 
-pub use coefficients::coefficient_entry;
+pub use coefficients::{coefficient_entry, part_entry};
 pub use dividing::{divided_entry, divisor_of, first_sign};
 pub use dz_algebra::Limit;
 pub use entry::Entry;

@@ -3,9 +3,10 @@
 ghost use Rattle.std.specs.Prelude.{◌≡◌, ◌⊎◌, ◌+◌, ◌++◌, [], ◌∷◌, max, false, true, IsTrue, IfOk, IfErr, OnOk};
 ghost use Rattle.std.specs.Ordering.{nat_cmp, ordering_then};
 ghost use Rattle.dz_algebra.specs.Gather.{merge};
-ghost use Rattle.dz_algebra.specs.Monomial.{IsMonomial, exponent, monomial_cmp, without};
+ghost use Rattle.dz_algebra.specs.Monomial.{IsMonomial, exponent, monomial_cmp};
 ghost use Rattle.dz_algebra.specs.declared.Limit.TheVariants.{Exponent};
 ghost use Rattle.dz_terms.specs.Degrees.{has_high_exponent};
+ghost use Rattle.dz_terms.specs.Terms.{with_exponent};
 ghost use Rattle.dz_terms.specs.declared.PolyStop.TheVariants.{Memory, Large};
 ghost use Rattle.dz_rank.specs.Rankings.{ranking_cmp};
 
@@ -180,36 +181,43 @@ pub fn common_multiple(
     }
 }
 
-/// Appends a power, unless it is one of the symbol.
-fn push_other(
+/// Appends a power; one of the symbol with the exponent `left`, and not at all where that is zero.
+fn push_power(
     ranking: &Ranking,
     all: &mut Powers,
     power: (Symbol, u16),
     symbol: Symbol,
+    left: u16,
 ) -> Result<(), AllocError>
     ensures { OnOk result (all.new.items
-        ≡ all.old.items ++ without (ranking_cmp ranking.now) symbol (power ∷ [])) }
+        ≡ all.old.items ++ with_exponent (ranking_cmp ranking.now) symbol left (power ∷ [])) }
 {
     match ranking.compare(symbol, power.0) {
-        Ordering::Equal => {}
-        _ => all.push(power)?,
+        Ordering::Equal => {
+            if left != 0 {
+                all.push((power.0, left))?;
+            }
+        }
+        Ordering::Less => all.push(power)?,
+        Ordering::Greater => all.push(power)?,
     }
     Ok(())
 }
 
-/// The monomial without a symbol.
-pub fn without_symbol(
+/// The monomial with another exponent of a symbol that occurs in it.
+pub fn with_exponent(
     alloc: Global,
     ranking: &Ranking,
     powers: &[(Symbol, u16)],
     symbol: Symbol,
+    left: u16,
 ) -> Result<Powers, AllocError>
     ensures { IfOk result (λ all.
-        all.items ≡ without (ranking_cmp ranking.now) symbol powers.now) }
+        all.items ≡ with_exponent (ranking_cmp ranking.now) symbol left powers.now) }
 {
     let mut all = SmallVec::new(alloc);
     for power in powers {
-        push_other(ranking, &mut all, *power, symbol)?;
+        push_power(ranking, &mut all, *power, symbol, left)?;
     }
     Ok(all)
 }

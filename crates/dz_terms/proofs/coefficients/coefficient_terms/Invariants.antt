@@ -1,7 +1,0 @@
-use Rattle.std.proofs.Common.{◌≡◌, take}
-use Rattle.dz_algebra.specs.Parts.{coefficient_of}
-use Rattle.dz_rank.specs.Rankings.{ranking_cmp}
-use Rattle.dz_terms.proofs.coefficients.coefficient_terms.Given as goal
-
-abbrev pub invariant-loop-term : goal.invariant-loop-term
-invariant-loop-term l = l.all.items ≡ coefficient_of (ranking_cmp l.ranking) l.symbol l.exponent (take l.term-index l.terms)
