@@ -1,6 +1,6 @@
 -- Division of the coefficients of polynomials that stand in a book.
-use Rattle.std.proofs.Common.{◌≡◌, ◌≢◌, ◌<◌, ◌≤◌, ◌+◌, ◌/◌, ◌∙◌, ◌++◌, ℕ, zero, suc, max, List, [], ◌∷◌, map, length, take, get_or, ℤ, pos, negsuc, neg_ℤ, int_div, unsigned_abs, refl, sym, ap, ap₂, subst, arith, add-one}
-use Rattle.std.specs.Prelude.{All}
+use Rattle.std.proofs.Common.{◌≡◌, ◌≢◌, ◌<◌, ◌≤◌, ◌+◌, ◌/◌, ◌∙◌, ◌++◌, ℕ, zero, suc, max, List, [], ◌∷◌, map, length, take, drop, get_or, ℤ, pos, negsuc, neg_ℤ, int_div, unsigned_abs, refl, sym, ap, ap₂, subst, arith, add-one}
+use Rattle.std.specs.Prelude.{All, slice_index_or, slice_set}
 use Rattle.std.specs.Int.{◌∣◌}
 use Rattle.std.proofs.Math.Nat.{div-le_self, div-one}
 use Rattle.std.proofs.lemmas.List.Elements.{All-nil, All-cons, All-head, All-tail}
@@ -158,3 +158,36 @@ pub norm_of_nothing : {M : Type 0} (p : List (M × ℤ)) → length p ≡ 0 → 
 unfolding norm
 norm_of_nothing [] e = refl
 norm_of_nothing (t ∷ p) e = absurd (omega arith)
+
+-- ---- division in place
+-- at its beginning nothing is divided
+pub none_divided : {M : Type 0} (k : ℤ) (p : List (M × ℤ)) → p ≡ divided k (take 0 p) ++ drop 0 p
+none_divided k p = refl
+
+-- with one more coefficient divided
+pub one_divided : {M : Type 0} (k : ℤ) (i : ℕ) (p now : List (M × ℤ)) (t d : M × ℤ) → i < length p → now ≡ divided k (take i p) ++ drop i p → t ≡ ((slice_index_or now i d).0, int_div (slice_index_or now i d).1 k)
+    → slice_set now i t ≡ divided k (take (i + 1) p) ++ drop (i + 1) p
+one_divided {M} k i p now t d l e f = rw add-one (at i p now l e f)
+  where
+    at : (i : ℕ) (p now : List (M × ℤ)) → i < length p → now ≡ divided k (take i p) ++ drop i p → t ≡ ((slice_index_or now i d).0, int_div (slice_index_or now i d).1 k)
+        → slice_set now i t ≡ divided k (take (suc i) p) ++ drop (suc i) p
+    at i [] now l e f = absurd (omega arith)
+    at zero (u ∷ p) now l e f = ap (λ xs. slice_set xs 0 t) e ∙ ap (λ x. x ∷ p) (f ∙ ap (λ xs. ((slice_index_or xs 0 d).0, int_div (slice_index_or xs 0 d).1 k)) e)
+    at (suc i) (u ∷ p) [] l e f = absurd (nothing e)
+      where
+        nothing : {X : Type 0} {x : X} {xs : List X} → [] ≡ x ∷ xs → ⊥
+        nothing e = cc
+    at (suc i) (u ∷ p) (v ∷ now) l e f =
+        let first : v ≡ (u.0, int_div u.1 k) = cc in
+        let rest : now ≡ divided k (take i p) ++ drop i p = cc in
+        ap₂ (λ x xs. x ∷ xs) first (at i p now (omega (arith, l)) rest f)
+
+-- in the end every coefficient is divided
+pub all_divided : {M : Type 0} (k : ℤ) (i : ℕ) (p now : List (M × ℤ)) → length p ≤ i → now ≡ divided k (take i p) ++ drop i p → now ≡ divided k p
+all_divided {M} k i p now l e = e ∙ at i p l
+  where
+    at : (i : ℕ) (p : List (M × ℤ)) → length p ≤ i → divided k (take i p) ++ drop i p ≡ divided k p
+    at zero [] l = refl
+    at (suc i) [] l = refl
+    at zero (u ∷ p) l = absurd (omega arith)
+    at (suc i) (u ∷ p) l = ap (λ q. (u.0, int_div u.1 k) ∷ q) (at i p (omega (arith, l)))

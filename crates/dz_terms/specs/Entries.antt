@@ -22,3 +22,7 @@ pub record IsKeepable (r : RankingValue) (p : Polynomial Symbol) : Type 0 where
 pub record IsEntry (r : RankingValue) (terms : Polynomial Symbol) (table : Monomial Symbol) : Type 0 where
   pub keepable : IsKeepable r terms
   pub degrees_are : table ≡ degrees (ranking_cmp r) terms
+
+-- and so they are under some ranking
+abbrev pub IsSomeEntry : Polynomial Symbol → Monomial Symbol → Type 0
+IsSomeEntry terms table = (r : RankingValue) × IsEntry r terms table

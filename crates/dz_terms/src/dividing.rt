@@ -2,8 +2,11 @@
 
 ghost use Rattle.std.specs.Prelude.{◌≡◌, ◌≤◌, ◌<◌, pos, length, map, int_div, unsigned_abs, IfOk};
 ghost use Rattle.dz_algebra.specs.Amount.{greatest};
-ghost use Rattle.dz_algebra.specs.Norm.{content, divided, signed_content};
+ghost use Rattle.dz_algebra.specs.Norm.{content, divided, norm, signed_content};
+ghost use Rattle.dz_terms.specs.Divisions.{DividesAll};
+ghost use Rattle.dz_terms.specs.Entries.{IsEntry, IsSomeEntry};
 ghost use Rattle.dz_terms.specs.Signs.{signed};
+ghost use Rattle.dz_rank.specs.Rankings.{RankingValue};
 
 use crate::entry::Entry;
 use crate::sums::Sign;
@@ -102,4 +105,54 @@ pub fn first_sign(terms: &[Term]) -> Sign
     } else {
         Sign::Plus
     }
+}
+
+#[tactic(auto, using(crate::proofs::Divisibility::none_divided, crate::proofs::Divisibility::one_divided, crate::proofs::Divisibility::all_divided))]
+/// Divides the coefficients of terms by a number with a sign.
+fn divide(terms: &mut Vec<Term>, sign: Sign, size: u128)
+    requires positive { 0 < size }
+    requires in_range { size ≤ greatest }
+    ensures { terms.new.items ≡ divided (signed sign (pos size)) terms.old.items }
+{
+    for term in terms.iter_mut() {
+        term.set_coefficient(quotient(term, sign, size));
+    }
+}
+
+/// The coefficients divided by `k`, which divides all of them; nothing is copied.
+pub fn quotient_by(entry: Entry, k: u128) -> Entry
+    requires entry { IsSomeEntry entry.terms.items entry.degrees.items }
+    requires positive { 1 ≤ k }
+    requires divides { DividesAll k entry.terms.items }
+    ensures terms { result.terms.items ≡ divided (pos k) entry.terms.items }
+    ensures entry { (r : RankingValue) → IsEntry r entry.terms.items entry.degrees.items
+        → IsEntry r result.terms.items result.degrees.items }
+{
+    if k == 1 {
+        return entry;
+    }
+    if entry.terms.is_empty() {
+        return entry;
+    }
+    let mut entry = entry;
+    divide(&mut entry.terms, Sign::Plus, k);
+    entry
+}
+
+/// The norm: divided by the greatest common divisor of the coefficients, with the first positive.
+pub fn into_norm(alloc: Global, entry: Entry) -> Result<Entry, AllocError>
+    requires { IsSomeEntry entry.terms.items entry.degrees.items }
+    ensures terms { IfOk result (λ all. all.terms.items ≡ norm entry.terms.items) }
+    ensures entry { IfOk result (λ all. (r : RankingValue)
+        → IsEntry r entry.terms.items entry.degrees.items
+        → IsEntry r all.terms.items all.degrees.items) }
+{
+    if entry.terms.is_empty() {
+        return Ok(entry);
+    }
+    let mut entry = entry;
+    let sign = first_sign(entry.terms.as_slice());
+    let divisor = divisor_of(alloc, entry.terms.as_slice())?;
+    divide(&mut entry.terms, sign, divisor);
+    Ok(entry)
 }

@@ -52,4 +52,12 @@ impl Term {
     {
         self.coefficient
     }
+
+    /// Puts another coefficient in place of the one that stands there.
+    pub fn set_coefficient(&mut self, coefficient: i128)
+        requires { unsigned_abs coefficient ≤ greatest }
+        ensures { self.new ≡ (self.old.0, coefficient) }
+    {
+        self.coefficient = coefficient;
+    }
 }
