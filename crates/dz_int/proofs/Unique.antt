@@ -2,7 +2,6 @@
 use Rattle.std.proofs.Common.{◌≡◌, ◌<◌, ◌*◌, ◌∙◌, ℕ, ℤ, pos, ◌*ℤ◌, unsigned_abs, refl, sym, ap, ap₂}
 use Rattle.std.proofs.lemmas.Int.{unsigned_abs-mul}
 use Rattle.dz_int.specs.Fractions.{Fraction, IsReduced, HasValue}
-use Rattle.dz_int.specs.Euclid.{gcd}
 use Rattle.dz_int.proofs.Coprime.{same_parts}
 use Rattle.dz_int.proofs.Reduced.{coprime_gcd}
 use Rattle.dz_int.proofs.Signs.{cancel_pos, factors_swap}

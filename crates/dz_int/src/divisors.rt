@@ -1,6 +1,7 @@
 //! Greatest common divisors.
 
 ghost use Rattle.std.specs.Prelude.{◌≡◌};
+ghost use Rattle.std.specs.Int.{IsGcd};
 ghost use Rattle.dz_int.specs.Numbers.{IsContent};
 ghost use Rattle.dz_int.specs.Euclid.{gcd};
 
@@ -38,6 +39,13 @@ pub(crate) fn divisor(a: u128, b: u128) -> u128
         y = rest;
     }
     x
+}
+
+/// The greatest common divisor of two numbers; 0 for two zeros.
+pub fn common_divisor(a: u128, b: u128) -> u128
+    ensures { IsGcd a b result }
+{
+    divisor(a, b)
 }
 
 /// The greatest common divisor of the absolute values; 0 for none or only zeros.

@@ -11,6 +11,6 @@ mod majorants;
 #[cfg(test)]
 mod tests;
 
-pub use divisors::content;
+pub use divisors::{common_divisor, content};
 pub use fractions::Frac;
 pub use majorants::Majorant;

@@ -8,7 +8,7 @@ ghost use Rattle.dz_terms.specs.declared.PolyStop.TheVariants.{Memory};
 
 use crate::PolyStop;
 use crate::book::{Book, Poly};
-use dz_terms::{Sign, divided_entry, divisor_of, first_sign};
+use dz_terms::{Sign, content_of, divided_entry, first_sign};
 
 /// The norm: divided by the greatest common divisor of the coefficients, with the first positive.
 pub fn normalise(book: &mut Book, a: Poly) -> Result<Poly, PolyStop>
@@ -23,8 +23,8 @@ pub fn normalise(book: &mut Book, a: Poly) -> Result<Poly, PolyStop>
         return Ok(a);
     }
     let sign = first_sign(entry.terms.as_slice());
-    let divisor = divisor_of(book.allocator(), entry.terms.as_slice())?;
-    let norm = divided_entry(book.allocator(), entry, sign, divisor)?;
+    let content = content_of(entry.terms.as_slice());
+    let norm = divided_entry(book.allocator(), entry, sign, content)?;
     Ok(book.keep(norm)?)
 }
 

@@ -4,7 +4,7 @@ use Rattle.std.specs.Prelude.{All, slice_index_or, slice_set}
 use Rattle.std.specs.Int.{◌∣◌}
 use Rattle.std.proofs.Math.Nat.{div-le_self, div-one}
 use Rattle.std.proofs.lemmas.List.Elements.{All-nil, All-cons, All-head, All-tail}
-use Rattle.std.proofs.lemmas.Nat.Gcd.{dvd_antisymm, dvd-zero, le_of_dvd}
+use Rattle.std.proofs.lemmas.Nat.Gcd.{le_of_dvd}
 use Rattle.std.specs.declared.cmp.Ordering.{Ordering}
 use Rattle.dz_algebra.specs.Amount.{greatest}
 use Rattle.dz_algebra.specs.Gather.{onto}
@@ -12,10 +12,8 @@ use Rattle.dz_algebra.specs.Monomial.{Monomial}
 use Rattle.dz_algebra.specs.Norm.{content, signed_content, divided, norm}
 use Rattle.dz_algebra.specs.Polynomial.{Polynomial, IsPolynomial, PolynomialIn, scaled}
 use Rattle.dz_algebra.specs.Size.{limit_of}
-use Rattle.dz_algebra.proofs.Divisors.{gcd_is}
 use Rattle.dz_algebra.proofs.NormLaws.{norm_is, unscaled_is}
-use Rattle.dz_algebra.proofs.Norms.{Divides, content_divides, exact, content_positive}
-use Rattle.dz_int.specs.Numbers.{IsContent}
+use Rattle.dz_algebra.proofs.Norms.{content_divides, exact, content_positive}
 use Rattle.dz_rank.specs.declared.symbols.Symbol.{Symbol}
 use Rattle.dz_rank.specs.Rankings.{RankingValue, ranking_cmp}
 use Rattle.dz_rank.specs.Symbols.{BelongsTo}
@@ -25,19 +23,7 @@ use Rattle.dz_terms.specs.Divisions.{DividesAll}
 use Rattle.dz_terms.specs.Entries.{IsEntry}
 use Rattle.dz_terms.specs.Ranked.{symbols_under}
 
--- ---- the content, by what it divides and what divides it
-divides_coefficients : {M : Type 0} (d : ℕ) (p : List (M × ℤ)) → Divides d p → All (λ c. d ∣ unsigned_abs c) (map (λ t. t.1) p)
-divides_coefficients d [] h = All-nil (λ c. d ∣ unsigned_abs c)
-divides_coefficients d (t ∷ p) h = All-cons (λ c. d ∣ unsigned_abs c) t.1 (map (λ t. t.1) p) h.0 (divides_coefficients d p h.1)
-
-divides_content : {M : Type 0} (d : ℕ) (p : List (M × ℤ)) → All (λ c. d ∣ unsigned_abs c) (map (λ t. t.1) p) → d ∣ content p
-divides_content d [] h = dvd-zero d
-divides_content d (t ∷ p) h = (gcd_is (unsigned_abs t.1) (content p)).2 d (All-head (λ c. d ∣ unsigned_abs c) t.1 (map (λ t. t.1) p) h) (divides_content d p (All-tail (λ c. d ∣ unsigned_abs c) t.1 (map (λ t. t.1) p) h))
-
--- the greatest common divisor of the coefficients is the content
-pub content_is : {M : Type 0} (p : List (M × ℤ)) (g : ℕ) → IsContent (map (λ t. t.1) p) g → g ≡ content p
-content_is p g h = dvd_antisymm (divides_content g p h.divides) (h.largest (content p) (divides_coefficients (content p) p (content_divides p)))
-
+-- ---- the size of a content
 positive_size : (c : ℤ) → c ≢ pos 0 → 0 < unsigned_abs c
 positive_size (pos zero) n = absurd (n refl)
 positive_size (pos (suc k)) n = omega arith

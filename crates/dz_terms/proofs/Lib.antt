@@ -16,3 +16,4 @@ pub mod PowerCoefficients
 pub mod Halves
 pub mod EntryFacts
 pub mod SameTerms
+pub mod Contents

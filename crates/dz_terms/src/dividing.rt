@@ -1,8 +1,8 @@
 //! Division of all coefficients by a number.
 
-ghost use Rattle.std.specs.Prelude.{◌≡◌, ◌≤◌, ◌<◌, pos, length, map, int_div, unsigned_abs, IfOk};
+ghost use Rattle.std.specs.Prelude.{◌≡◌, ◌≤◌, ◌<◌, pos, length, int_div, unsigned_abs, IfOk};
 ghost use Rattle.dz_algebra.specs.Amount.{greatest};
-ghost use Rattle.dz_algebra.specs.Norm.{content, divided, norm, signed_content};
+ghost use Rattle.dz_algebra.specs.Norm.{content, divided, gcd, norm, signed_content};
 ghost use Rattle.dz_terms.specs.Divisions.{DividesAll};
 ghost use Rattle.dz_terms.specs.Entries.{IsEntry, IsSomeEntry};
 ghost use Rattle.dz_terms.specs.Signs.{signed};
@@ -11,6 +11,7 @@ ghost use Rattle.dz_rank.specs.Rankings.{RankingValue};
 use crate::entry::Entry;
 use crate::sums::Sign;
 use crate::term::Term;
+use dz_int::common_divisor;
 use smallvec::SmallVec;
 use std::alloc::{AllocError, Global};
 
@@ -76,23 +77,20 @@ pub fn divided_entry(
     Ok(Entry { terms, degrees })
 }
 
-/// The coefficients of terms.
-fn coefficients(alloc: Global, terms: &[Term]) -> Result<Vec<i128>, AllocError>
-    ensures { IfOk result (λ all. all.items ≡ map (λ t. t.1) terms.now) }
+#[tactic(auto, using(crate::proofs::Contents::none_left, crate::proofs::Contents::one_more, crate::proofs::Contents::is_one))]
+/// The greatest common divisor of the coefficients, 0 for no terms.
+pub fn content_of(terms: &[Term]) -> u128
+    ensures { result ≡ content terms.now }
 {
-    let mut all = Vec::with_capacity(alloc, terms.len())?;
-    for term in terms {
-        all.push(term.coefficient())?;
+    let mut all = 0;
+    for i in 0..terms.len() {
+        if all == 1 {
+            return 1;
+        }
+        let coefficient = terms[terms.len() - 1 - i].coefficient();
+        all = common_divisor(coefficient.unsigned_abs(), all);
     }
-    Ok(all)
-}
-
-/// The greatest common divisor of the coefficients.
-pub fn divisor_of(alloc: Global, terms: &[Term]) -> Result<u128, AllocError>
-    ensures { IfOk result (λ divisor. divisor ≡ content terms.now) }
-{
-    let all = coefficients(alloc, terms)?;
-    Ok(dz_int::content(all.as_slice()))
+    all
 }
 
 /// The sign of the first coefficient.
@@ -139,20 +137,27 @@ pub fn quotient_by(entry: Entry, k: u128) -> Entry
     entry
 }
 
-/// The norm: divided by the greatest common divisor of the coefficients, with the first positive.
-pub fn into_norm(alloc: Global, entry: Entry) -> Result<Entry, AllocError>
+/// The norm: divided by the greatest common divisor of the coefficients, with the first positive;
+/// nothing is copied.
+pub fn into_norm(entry: Entry) -> Entry
     requires { IsSomeEntry entry.terms.items entry.degrees.items }
-    ensures terms { IfOk result (λ all. all.terms.items ≡ norm entry.terms.items) }
-    ensures entry { IfOk result (λ all. (r : RankingValue)
-        → IsEntry r entry.terms.items entry.degrees.items
-        → IsEntry r all.terms.items all.degrees.items) }
+    ensures terms { result.terms.items ≡ norm entry.terms.items }
+    ensures entry { (r : RankingValue) → IsEntry r entry.terms.items entry.degrees.items
+        → IsEntry r result.terms.items result.degrees.items }
 {
     if entry.terms.is_empty() {
-        return Ok(entry);
+        return entry;
     }
     let mut entry = entry;
     let sign = first_sign(entry.terms.as_slice());
-    let divisor = divisor_of(alloc, entry.terms.as_slice())?;
-    divide(&mut entry.terms, sign, divisor);
-    Ok(entry)
+    let content = content_of(entry.terms.as_slice());
+    divide(&mut entry.terms, sign, content);
+    entry
+}
+
+/// The greatest common divisor of the coefficients of two polynomials.
+pub fn common_content(a: &[Term], b: &[Term]) -> u128
+    ensures { result ≡ gcd (content a.now) (content b.now) }
+{
+    common_divisor(content_of(a), content_of(b))
 }

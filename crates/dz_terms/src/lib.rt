@@ -22,7 +22,7 @@ mod sums;
 mod term;
 
 pub use coefficients::{coefficient_entry, part_entry};
-pub use dividing::{divided_entry, divisor_of, first_sign};
+pub use dividing::{common_content, content_of, divided_entry, first_sign, into_norm, quotient_by};
 pub use dz_algebra::Limit;
 pub use entry::Entry;
 pub use factors::factor;

@@ -15,23 +15,23 @@ returns-then-is_empty-clause-value c =
 pub divided_entry-requires-clause-positive : goal.divided_entry-requires-clause-positive
 divided_entry-requires-clause-positive c =
     let n : false ≡ (length c.entry-entry.result.now.terms.items == 0) = first_of (search rules, grind (arith, common_steps)) in
-    let e : c.in_ok-divisor.divisor ≡ content c.entry-entry.result.now.terms.items = c.in_ok-divisor.ensures ∙ ap content c.as_slice-2.ensures.value in
+    let e : c.content_of-content.result ≡ content c.entry-entry.result.now.terms.items = c.content_of-content.ensures ∙ ap content c.as_slice-2.ensures.value in
     rw e (content_positive_in_range c.args.book.now.ranking c.entry-entry.result.now.terms.items c.entry-entry.ensures.entry.keepable (not_empty c.entry-entry.result.now.terms.items n)).0
 
 pub divided_entry-requires-clause-in_range : goal.divided_entry-requires-clause-in_range
 divided_entry-requires-clause-in_range c =
     let n : false ≡ (length c.entry-entry.result.now.terms.items == 0) = first_of (search rules, grind (arith, common_steps)) in
-    let e : c.in_ok-divisor.divisor ≡ content c.entry-entry.result.now.terms.items = c.in_ok-divisor.ensures ∙ ap content c.as_slice-2.ensures.value in
+    let e : c.content_of-content.result ≡ content c.entry-entry.result.now.terms.items = c.content_of-content.ensures ∙ ap content c.as_slice-2.ensures.value in
     rw e (content_positive_in_range c.args.book.now.ranking c.entry-entry.result.now.terms.items c.entry-entry.ensures.entry.keepable (not_empty c.entry-entry.result.now.terms.items n)).1
 
 pub keep-requires : goal.keep-requires
 keep-requires c =
-    let e : c.in_ok-divisor.divisor ≡ content c.entry-entry.result.now.terms.items = c.in_ok-divisor.ensures ∙ ap content c.as_slice-2.ensures.value in
-    let s : signed c.first_sign-sign.result (pos c.in_ok-divisor.divisor) ≡ signed_content c.entry-entry.result.now.terms.items = ap (λ g. signed c.first_sign-sign.result (pos g)) e ∙ rw c.as_slice.ensures.value at c.first_sign-sign.ensures in
-    norm_entry c.args.book.now.ranking c.entry-entry.result.now.terms.items c.entry-entry.result.now.degrees.items (signed c.first_sign-sign.result (pos c.in_ok-divisor.divisor)) c.in_ok-norm.norm.terms.items c.in_ok-norm.norm.degrees.items c.entry-entry.ensures.entry s c.in_ok-norm.ensures.terms c.in_ok-norm.ensures.degrees
+    let e : c.content_of-content.result ≡ content c.entry-entry.result.now.terms.items = c.content_of-content.ensures ∙ ap content c.as_slice-2.ensures.value in
+    let s : signed c.first_sign-sign.result (pos c.content_of-content.result) ≡ signed_content c.entry-entry.result.now.terms.items = ap (λ g. signed c.first_sign-sign.result (pos g)) e ∙ rw c.as_slice.ensures.value at c.first_sign-sign.ensures in
+    norm_entry c.args.book.now.ranking c.entry-entry.result.now.terms.items c.entry-entry.result.now.degrees.items (signed c.first_sign-sign.result (pos c.content_of-content.result)) c.in_ok-norm.norm.terms.items c.in_ok-norm.norm.degrees.items c.entry-entry.ensures.entry s c.in_ok-norm.ensures.terms c.in_ok-norm.ensures.degrees
 
 pub returns-clause-value : goal.returns-clause-value
 returns-clause-value c =
-    let e : c.in_ok-divisor.divisor ≡ content c.entry-entry.result.now.terms.items = c.in_ok-divisor.ensures ∙ ap content c.as_slice-2.ensures.value in
-    let s : signed c.first_sign-sign.result (pos c.in_ok-divisor.divisor) ≡ signed_content c.entry-entry.result.now.terms.items = ap (λ g. signed c.first_sign-sign.result (pos g)) e ∙ rw c.as_slice.ensures.value at c.first_sign-sign.ensures in
-    rw (← c.entry-entry.ensures.value, ← norm_value (signed c.first_sign-sign.result (pos c.in_ok-divisor.divisor)) c.entry-entry.result.now.terms.items c.in_ok-norm.norm.terms.items s c.in_ok-norm.ensures.terms) c.in_ok-keep.ensures.ok
+    let e : c.content_of-content.result ≡ content c.entry-entry.result.now.terms.items = c.content_of-content.ensures ∙ ap content c.as_slice-2.ensures.value in
+    let s : signed c.first_sign-sign.result (pos c.content_of-content.result) ≡ signed_content c.entry-entry.result.now.terms.items = ap (λ g. signed c.first_sign-sign.result (pos g)) e ∙ rw c.as_slice.ensures.value at c.first_sign-sign.ensures in
+    rw (← c.entry-entry.ensures.value, ← norm_value (signed c.first_sign-sign.result (pos c.content_of-content.result)) c.entry-entry.result.now.terms.items c.in_ok-norm.norm.terms.items s c.in_ok-norm.ensures.terms) c.in_ok-keep.ensures.ok
