@@ -6,3 +6,4 @@ pub mod Falls
 pub mod NextSteps
 pub mod NoSteps
 pub mod Courses
+pub mod StepParts

@@ -5,6 +5,7 @@
 #![tactic(auto)]
 
 pub mod laws;
+mod reducing;
 
 use dz_rank::Operator;
 
