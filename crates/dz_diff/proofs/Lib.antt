@@ -7,3 +7,6 @@ pub mod Degrees
 pub mod LeaderDerivations
 pub mod OperatorLeaders
 pub mod Overs
+pub mod SplitRates
+pub mod RowTerms
+pub mod RateLists

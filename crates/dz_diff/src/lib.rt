@@ -1,4 +1,5 @@
-//! Leaders and derivations in a setting, and the states that are worked on.
-//!
-//! So far there are definitions here, in `specs/`, and no function.
+//! Derivations of the terms of differential polynomials and of polynomials in a book, and the
+//! states that are worked on.
 #![tactic(auto)]
+
+mod rates;
