@@ -10,3 +10,5 @@ pub mod Overs
 pub mod SplitRates
 pub mod RowTerms
 pub mod RateLists
+pub mod RateTables
+pub mod RowPieces

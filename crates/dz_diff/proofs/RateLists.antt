@@ -1,11 +1,12 @@
 -- The rows of a list of rates: what they make together, their exponents and their orders.
 use Rattle.std.specs.Prelude.{⊤}
-use Rattle.std.proofs.Common.{◌≡◌, ◌<◌, ◌≤◌, ◌+◌, ◌⊎◌, inl, inr, ◌∙◌, ◌||◌, ℕ, zero, suc, Bool, true, false, nat_lt, List, [], ◌∷◌, ◌++◌, length, ℤ, pos, ◌*ℤ◌, Option, refl, sym, ap, ap₂, subst, arith, max}
+use Rattle.std.proofs.Common.{◌≡◌, ◌<◌, ◌≤◌, ◌+◌, ◌⊎◌, inl, inr, ◌∙◌, ◌||◌, ℕ, zero, suc, Bool, true, false, nat_lt, List, [], ◌∷◌, ◌++◌, length, get_or, ℤ, pos, ◌*ℤ◌, Option, refl, sym, ap, ap₂, subst, arith, max}
 use Rattle.std.proofs.lemmas.Bool.Decides.{nat_tests}
 use Rattle.std.specs.List.{list_any}
 use Rattle.std.specs.declared.cmp.Ordering.{Ordering}
 use Rattle.std.specs.declared.cmp.Ordering.TheVariants.{Less, Equal, Greater}
 use Rattle.std.specs.Ordering.{match_ordering}
+use Rattle.dz_algebra.specs.declared.Limit.TheVariants as limits
 use Rattle.dz_algebra.specs.Amount.{Amount, amounts, add_amounts, gathered}
 use Rattle.dz_algebra.specs.Derivation.{Rate, RateIn, constant, unit, symbol, once_less, times_rate, each_with_power, term_derivative, derivative_contributions}
 use Rattle.dz_algebra.specs.Gather.{merge}
@@ -20,6 +21,8 @@ use Rattle.dz_rank.specs.Rankings.{RankingValue, ranking_cmp}
 use Rattle.dz_rank.specs.declared.symbols.Symbol.{Symbol}
 use Rattle.dz_terms.specs.Cells.{add_capped, caps}
 use Rattle.dz_terms.specs.Degrees.{degrees, has_high_order, has_high_exponent}
+use Rattle.dz_terms.specs.declared.PolyStop.{PolyStop}
+use Rattle.dz_terms.specs.declared.PolyStop.TheVariants.{Memory, Large}
 use Rattle.dz_terms.proofs.Halves.{merged_parts}
 use Rattle.dz_terms.proofs.Multiplying.{high-append}
 use Rattle.dz_terms.proofs.SupportLaws.{degrees_gathered}
@@ -108,9 +111,55 @@ module _ {cmp : Symbol → Symbol → Ordering} (order : IsOrder cmp) where
         ∙ ap has_high_exponent (degrees_gathered order (rows cmp a p ++ rows cmp b p) (monomials-append order (rows cmp a p) (rows cmp b p) (stand a) (stand b)))
         ∙ high-append order (rows cmp a p) (rows cmp b p)
 
+    part_high : (c d : Bool) → (c ≡ true) ⊎ (d ≡ true) → (c || d) ≡ true
+    part_high true d h = refl
+    part_high false true h = refl
+    part_high false false (inl e) = e
+    part_high false false (inr e) = e
+
+    -- a part that is refused has the whole list refused
+    pub front_refused : (stop : PolyStop) → (stop ≡ Memory) ⊎ ((stop ≡ Large limits.Exponent) × (has_high_exponent (degrees cmp (rows cmp a p)) ≡ true)) → (stop ≡ Memory) ⊎ ((stop ≡ Large limits.Exponent) × (has_high_exponent (degrees cmp (rows cmp qs p)) ≡ true))
+    front_refused stop (inl f) = inl f
+    front_refused stop (inr f) = inr (f.0, rows_high ∙ part_high (has_high_exponent (degrees cmp (rows cmp a p))) (has_high_exponent (degrees cmp (rows cmp b p))) (inl f.1))
+
+    -- either of them
+    pub back_refused : (stop : PolyStop) → (stop ≡ Memory) ⊎ ((stop ≡ Large limits.Exponent) × (has_high_exponent (degrees cmp (rows cmp b p)) ≡ true)) → (stop ≡ Memory) ⊎ ((stop ≡ Large limits.Exponent) × (has_high_exponent (degrees cmp (rows cmp qs p)) ≡ true))
+    back_refused stop (inl f) = inl f
+    back_refused stop (inr f) = inr (f.0, rows_high ∙ part_high (has_high_exponent (degrees cmp (rows cmp a p))) (has_high_exponent (degrees cmp (rows cmp b p))) (inr f.1))
+
+    -- the exponents are low where those of both parts are
+    pub both_low : has_high_exponent (degrees cmp (rows cmp a p)) ≡ false → has_high_exponent (degrees cmp (rows cmp b p)) ≡ false → has_high_exponent (degrees cmp (rows cmp qs p)) ≡ false
+    both_low f g = rows_high ∙ ap₂ (λ c d. c || d) f g
+
+  -- no rates make nothing
+  pub no_rows : (qs : List (Symbol × SymbolRate)) (p : Polynomial Symbol) → length qs ≡ 0 → rows cmp qs p ≡ []
+  no_rows [] p e = terms p
+    where
+      term : (m : Monomial Symbol) (c : ℤ) → term_derivative cmp (rate_in cmp []) m c ≡ []
+      term [] c = refl
+      term (q ∷ m) c = ap (each_with_power cmp q.0 q.1) (term m c)
+
+      terms : (p : Polynomial Symbol) → rows cmp [] p ≡ []
+      terms [] = refl
+      terms (t ∷ p) = ap₂ (λ a b. a ++ b) (term t.0 t.1) (terms p)
+  no_rows (q ∷ qs) p e = absurd (omega arith)
+
   -- the cells of a row are what it gathers
   pub row_gathered : (s : Symbol) (x : SymbolRate) (p : Polynomial Symbol) → IsPolynomial cmp p → caps (amounts (row cmp s x p)) ≡ caps (gathered cmp (row cmp s x p))
   row_gathered s x p h = ap caps (merge_puts (monomial_order order) add_amounts [] (amounts (row cmp s x p)) tt (row_falls order s (meant x) p h))
+
+  one_rate : (qs : List (Symbol × SymbolRate)) (d : Symbol × SymbolRate) → length qs ≡ 1 → qs ≡ get_or qs 0 d ∷ []
+  one_rate [] d e = absurd (omega arith)
+  one_rate (q ∷ []) d e = refl
+  one_rate (q ∷ u ∷ qs) d e = absurd (omega arith)
+
+  -- the cells of one rate are those of its row
+  pub one_row : (qs : List (Symbol × SymbolRate)) (d : Symbol × SymbolRate) → length qs ≡ 1 → (p : Polynomial Symbol) → IsPolynomial cmp p → (cells : List (Monomial Symbol × Option Amount)) → cells ≡ caps (amounts (row cmp (get_or qs 0 d).0 (get_or qs 0 d).1 p)) → cells ≡ caps (gathered cmp (rows cmp qs p))
+  one_row qs d e p h cells f = f ∙ row_gathered (get_or qs 0 d).0 (get_or qs 0 d).1 p h ∙ ap (λ l. caps (gathered cmp (rows cmp l p))) (sym (one_rate qs d e))
+
+  -- and one rate is refused where its row is
+  pub one_refused : (qs : List (Symbol × SymbolRate)) (d : Symbol × SymbolRate) → length qs ≡ 1 → (p : Polynomial Symbol) (stop : PolyStop) → (stop ≡ Memory) ⊎ ((stop ≡ Large limits.Exponent) × (has_high_exponent (degrees cmp (row cmp (get_or qs 0 d).0 (get_or qs 0 d).1 p)) ≡ true)) → (stop ≡ Memory) ⊎ ((stop ≡ Large limits.Exponent) × (has_high_exponent (degrees cmp (rows cmp qs p)) ≡ true))
+  one_refused qs d e p stop f = subst (λ l. (stop ≡ Memory) ⊎ ((stop ≡ Large limits.Exponent) × (has_high_exponent (degrees cmp (rows cmp l p)) ≡ true))) (sym (one_rate qs d e)) f
 
 -- what all rates make has a property
 pub in_rates : (cmp : Symbol → Symbol → Ordering) (P : Symbol → Type 0) (qs : List (Symbol × SymbolRate)) → AllOf (λ q. RateIn P (meant q.1)) qs → (s : Symbol) → RateIn P (rate_in cmp qs s)

@@ -72,3 +72,14 @@ abbrev pub is_high_rate : {S : Type 0} → (S → ℕ) → Rate S → Bool
 is_high_rate order constant = false
 is_high_rate order unit = false
 is_high_rate order (symbol t) = nat_lt 60 (order t)
+
+-- a list of rates with one before, where that is not zero
+abbrev pub with_rate : Symbol → Rate Symbol → List (Symbol × SymbolRate) → List (Symbol × SymbolRate)
+with_rate s constant qs = qs
+with_rate s unit qs = (s, One) ∷ qs
+with_rate s (symbol t) qs = (s, Next t) ∷ qs
+
+-- the rates of the symbols of a monomial that are not zero
+abbrev pub rates_of : (Symbol → Rate Symbol) → Monomial Symbol → List (Symbol × SymbolRate)
+rates_of rate [] = []
+rates_of rate (p ∷ m) = with_rate p.0 (rate p.0) (rates_of rate m)
