@@ -12,3 +12,4 @@ pub mod RowTerms
 pub mod RateLists
 pub mod RateTables
 pub mod RowPieces
+pub mod OperatorAnswers

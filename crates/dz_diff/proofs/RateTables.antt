@@ -100,8 +100,10 @@ take_here {X} i xs d h = rw add-one (at i xs h)
     at (suc i) (y ∷ xs) h = ap (λ l. y ∷ l) (at i xs (omega arith))
 
 -- one rate more
-pub rate_more : (rate : Symbol → Rate Symbol) (i : ℕ) (m : Monomial Symbol) (d : Symbol × ℕ) → i < length m → rates_of rate (take i m) ++ with_rate (get_or m i d).0 (rate (get_or m i d).0) [] ≡ rates_of rate (take (i + 1) m)
-rate_more rate i m d h = sym (ap (rates_of rate) (take_here i m d h) ∙ rates_of-append rate (take i m) (get_or m i d ∷ []))
+pub rate_more : (rate : Symbol → Rate Symbol) (i : ℕ) (m : Monomial Symbol) (d : Symbol × ℕ) → i < length m → (old new : List (Symbol × SymbolRate)) (x : Rate Symbol) → new ≡ old ++ with_rate (get_or m i d).0 x [] → old ≡ rates_of rate (take i m) → x ≡ rate (get_or m i d).0 → new ≡ rates_of rate (take (i + 1) m)
+rate_more rate i m d h old new x e f g =
+    e ∙ ap₂ (λ l y. l ++ with_rate (get_or m i d).0 y []) f g
+    ∙ sym (ap (rates_of rate) (take_here i m d h) ∙ rates_of-append rate (take i m) (get_or m i d ∷ []))
 
 -- a symbol whose rate is low, after others that have none but low ones
 pub low_more : (rate : Symbol → Rate Symbol) (i : ℕ) (m : Monomial Symbol) (d : Symbol × ℕ) → i < length m → list_any (λ q. is_high_rate total_order (rate q.0)) (take i m) ≡ false → is_high_rate total_order (rate (get_or m i d).0) ≡ false → list_any (λ q. is_high_rate total_order (rate q.0)) (take (i + 1) m) ≡ false
@@ -118,6 +120,12 @@ high_at rate (suc i) (p ∷ m) d h e = ap (λ b. is_high_rate total_order (rate 
     last : (a : Bool) → (a || true) ≡ true
     last true = refl
     last false = refl
+
+-- what holds of each symbol holds of the one at a place
+pub in_at : (P : Symbol → Type 0) (i : ℕ) (m : Monomial Symbol) (d : Symbol × ℕ) → i < length m → MonomialIn P m → P (get_or m i d).0
+in_at P i [] d h k = absurd (omega arith)
+in_at P zero (p ∷ m) d h k = k.0
+in_at P (suc i) (p ∷ m) d h k = in_at P i m d (omega arith) k.1
 
 -- ---- each symbol of a monomial
 -- a property of a rate with its symbol, where it is not zero
@@ -249,12 +257,12 @@ module _ (r : RankingValue) (p : Polynomial Symbol) (table : Monomial Symbol) (e
   limited rate o x e f = ap₂ (λ a b. cond a (Some limits.Order) (cond b (Some limits.Exponent) (limit_of_counts (length (degrees (ranking_cmp r) (derivative_contributions (ranking_cmp r) rate p))) (length (gathered (ranking_cmp r) (derivative_contributions (ranking_cmp r) rate p)))))) e f
 
   -- the i-th derivation of a symbol whose derivative has too high an order
-  pub order_refused : (i : ℕ) → list_any (λ q. is_high_rate total_order (symbol_rate i q.0)) table ≡ true → (stop : PolyStop) → (stop ≡ Memory) ⊎ (stop ≡ Large limits.Order) → IsStop stop (derivation_answer (symbols_under r) i p)
-  order_refused i h stop (inl e) = inl e
-  order_refused i h stop (inr e) =
+  pub order_refused : (i : ℕ) (stop : PolyStop) → (stop ≡ Memory) ⊎ ((stop ≡ Large limits.Order) × (list_any (λ q. is_high_rate total_order (symbol_rate i q.0)) table ≡ true)) → IsStop stop (derivation_answer (symbols_under r) i p)
+  order_refused i stop (inl e) = inl e
+  order_refused i stop (inr e) =
       inr (refused_by_limit (symbols_under r) (ranking_order r) (derivative_contributions (ranking_cmp r) (symbol_rate i) p) (standing (symbol_rate i)) limits.Order
-      (limited (symbol_rate i) true _ (derivative_high (ranking_order r) total_order (symbol_rate i) p low_orders ∙ ap (list_any (λ q. is_high_rate total_order (symbol_rate i q.0))) (sym entry.degrees_are) ∙ h) refl)
-      ∙ ap Some (sym e))
+      (limited (symbol_rate i) true _ (derivative_high (ranking_order r) total_order (symbol_rate i) p low_orders ∙ ap (list_any (λ q. is_high_rate total_order (symbol_rate i q.0))) (sym entry.degrees_are) ∙ e.1) refl)
+      ∙ ap Some (sym e.0))
 
   module _ (qs : List (Symbol × SymbolRate)) (are : AreRates r qs) where
     low_rate : (x : Rate Symbol) → RateIn (λ t. total_order t ≤ 60) x → is_high_rate total_order x ≡ false
@@ -335,8 +343,8 @@ module _ (r : RankingValue) (p : Polynomial Symbol) (table : Monomial Symbol) (e
         no_part false b e = (refl, e)
 
     -- they are rates
-    pub table_rates : (qs : List (Symbol × SymbolRate)) → qs ≡ rates_of (symbol_rate i) table → list_any (λ q. is_high_rate total_order (symbol_rate i q.0)) table ≡ false → AreRates r qs
-    table_rates qs e low = subst (AreRates r) (sym e) (record {
+    pub are_rates : (qs : List (Symbol × SymbolRate)) → qs ≡ rates_of (symbol_rate i) table → list_any (λ q. is_high_rate total_order (symbol_rate i q.0)) table ≡ false → AreRates r qs
+    are_rates qs e low = subst (AreRates r) (sym e) (record {
       falls = falling_rates (ranking_cmp r) (symbol_rate i) table (table_is_monomial r p table entry);
       rise = all_rates (λ q. Rises (ranking_cmp r) q.0 q.1) (symbol_rate i) table (in_all (λ s. Fits (λ q. Rises (ranking_cmp r) q.0 q.1) s (symbol_rate i s)) rises table);
       stay = all_rates (λ q. Stays r q.1) (symbol_rate i) table (all_stay table symbols_belong low);

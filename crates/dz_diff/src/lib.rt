@@ -2,5 +2,12 @@
 //! states that are worked on.
 #![tactic(auto)]
 
+mod derivations;
+mod differentiating;
+mod operators;
 mod rates;
 mod rows;
+
+pub use derivations::{derivative, partial_derivative};
+pub use differentiating::{apply, differentiate};
+pub use operators::applied;
