@@ -1,11 +1,10 @@
 -- What an operator answers, derivation by derivation.
-use Rattle.std.proofs.Common.{◌≡◌, ◌<◌, ◌≤◌, ◌+◌, ◌∙◌, ◌⊎◌, inl, inr, ℕ, zero, suc, List, [], ◌∷◌, ◌++◌, length, take, get_or, Result, Ok, Err, refl, sym, ap, subst, arith, add-one}
-use Rattle.std.specs.Prelude.{Some}
+use Rattle.std.proofs.Common.{◌≡◌, ◌<◌, ◌≤◌, ◌+◌, ◌∙◌, inl, inr, ℕ, zero, suc, List, [], ◌∷◌, ◌++◌, length, take, get_or, Result, Ok, Err, refl, sym, ap, subst, arith, add-one}
 use Rattle.dz_algebra.specs.Polynomial.{Polynomial}
 use Rattle.dz_algebra.specs.Size.{Refusal, wide, large, derivation_answer}
 use Rattle.dz_algebra.specs.Symbols.{Symbols}
 use Rattle.dz_rank.specs.declared.symbols.Symbol.{Symbol}
-use Rattle.dz_terms.specs.Stops.{refusal_of, IsStop}
+use Rattle.dz_terms.specs.Stops.{IsStop}
 use Rattle.dz_terms.specs.declared.PolyStop.{PolyStop}
 use Rattle.dz_diff.specs.Operations.{iterated_answer, derivations_answer}
 use Rattle.dz_diff.specs.Outcome.{◌>>=◌}

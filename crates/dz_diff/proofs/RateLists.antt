@@ -1,7 +1,5 @@
 -- The rows of a list of rates: what they make together, their exponents and their orders.
-use Rattle.std.specs.Prelude.{⊤}
-use Rattle.std.proofs.Common.{◌≡◌, ◌<◌, ◌≤◌, ◌+◌, ◌⊎◌, inl, inr, ◌∙◌, ◌||◌, ℕ, zero, suc, Bool, true, false, nat_lt, List, [], ◌∷◌, ◌++◌, length, get_or, ℤ, pos, ◌*ℤ◌, Option, refl, sym, ap, ap₂, subst, arith, max}
-use Rattle.std.proofs.lemmas.Bool.Decides.{nat_tests}
+use Rattle.std.proofs.Common.{◌≡◌, ◌+◌, ◌⊎◌, inl, inr, ◌∙◌, ◌||◌, ℕ, zero, suc, Bool, true, false, nat_lt, List, [], ◌∷◌, ◌++◌, length, get_or, ℤ, pos, ◌*ℤ◌, Option, refl, sym, ap, ap₂, subst, arith, max}
 use Rattle.std.specs.List.{list_any}
 use Rattle.std.specs.declared.cmp.Ordering.{Ordering}
 use Rattle.std.specs.declared.cmp.Ordering.TheVariants.{Less, Equal, Greater}
@@ -26,7 +24,6 @@ use Rattle.dz_terms.specs.declared.PolyStop.TheVariants.{Memory, Large}
 use Rattle.dz_terms.proofs.Halves.{merged_parts}
 use Rattle.dz_terms.proofs.Multiplying.{high-append}
 use Rattle.dz_terms.proofs.SupportLaws.{degrees_gathered}
-use Rattle.dz_terms.proofs.SymbolLaws.{ranking_order}
 use Rattle.dz_diff.specs.Lists.{AllOf}
 use Rattle.dz_diff.specs.Rows.{meant, rate_in, row, rows, Rises, Stays, AreRates, is_high_rate}
 use Rattle.dz_diff.specs.declared.rates.Rate.{Rate as SymbolRate}

@@ -9,11 +9,11 @@ use Rattle.std.specs.declared.cmp.Ordering.TheVariants.{Less, Equal, Greater}
 use Rattle.std.specs.Ordering.{match_ordering}
 use Rattle.dz_algebra.specs.declared.Limit.TheVariants as limits
 use Rattle.dz_algebra.specs.Amount.{Amount, gathered}
-use Rattle.dz_algebra.specs.Derivation.{Rate, RateIn, constant, unit, symbol, rate_by, once_less, times_rate, each_with_power, term_derivative, derivative_contributions}
+use Rattle.dz_algebra.specs.Derivation.{Rate, RateIn, constant, unit, symbol, once_less, times_rate, each_with_power, term_derivative, derivative_contributions}
 use Rattle.dz_algebra.specs.Gather.{put, onto}
 use Rattle.dz_algebra.specs.Monomial.{Monomial, IsMonomial, MonomialIn}
 use Rattle.dz_algebra.specs.Order.{IsOrder, IsAbove, IsFalling}
-use Rattle.dz_algebra.specs.Polynomial.{Polynomial, Contributions, IsPolynomial, PolynomialIn, AreMonomials}
+use Rattle.dz_algebra.specs.Polynomial.{Polynomial, Contributions, PolynomialIn, AreMonomials}
 use Rattle.dz_algebra.specs.Size.{operation, derivation_answer, separant_answer}
 use Rattle.dz_algebra.proofs.Canonical.{are_monomials}
 use Rattle.dz_algebra.proofs.Derivations.{monomials_derivative}
@@ -21,7 +21,6 @@ use Rattle.dz_algebra.proofs.Inside.{in_derivative}
 use Rattle.dz_algebra.proofs.Orders.{greater_reversed, less_reversed}
 use Rattle.dz_rank.specs.Rankings.{RankingValue, ranking_cmp}
 use Rattle.dz_rank.specs.Symbols.{BelongsTo, HasFourExponents, total_order, raised, raised_symbol, exponent_sums}
-use Rattle.dz_rank.specs.declared.symbols.Operator.{Operator}
 use Rattle.dz_rank.specs.declared.symbols.Symbol.{Symbol}
 use Rattle.dz_rank.specs.declared.symbols.Symbol.TheVariants.{Independent, Derivative}
 use Rattle.dz_rank.proofs.Belonging.{raised_belongs}
@@ -30,7 +29,7 @@ use Rattle.dz_terms.specs.Cells.{caps}
 use Rattle.dz_terms.specs.Degrees.{degrees, has_high_order, has_high_exponent, limit_of_counts, limit_by}
 use Rattle.dz_terms.specs.Entries.{IsEntry, IsKeepable}
 use Rattle.dz_terms.specs.Ranked.{symbol_rate, symbols_under}
-use Rattle.dz_terms.specs.Stops.{refusal_of, IsStop}
+use Rattle.dz_terms.specs.Stops.{IsStop}
 use Rattle.dz_terms.specs.Supports.{IsSupportOf}
 use Rattle.dz_terms.specs.declared.PolyStop.{PolyStop}
 use Rattle.dz_terms.specs.declared.PolyStop.TheVariants.{Memory, Large}
@@ -41,7 +40,7 @@ use Rattle.dz_terms.proofs.Summing.{support_of, low_entry, degrees-caps}
 use Rattle.dz_terms.proofs.SupportLaws.{degrees_gathered}
 use Rattle.dz_terms.proofs.SymbolLaws.{ranking_order}
 use Rattle.dz_diff.specs.Lists.{AllOf}
-use Rattle.dz_diff.specs.Rows.{only, meant, rate_in, row, rows, Rises, Stays, AreRates, is_high_rate, with_rate, rates_of}
+use Rattle.dz_diff.specs.Rows.{meant, rate_in, rows, Rises, Stays, AreRates, is_high_rate, with_rate, rates_of}
 use Rattle.dz_diff.specs.declared.rates.Rate.{Rate as SymbolRate}
 use Rattle.dz_diff.specs.declared.rates.Rate.TheVariants.{One, Next}
 use Rattle.dz_diff.proofs.RateLists.{in_rates, rate_above, derivative_high}

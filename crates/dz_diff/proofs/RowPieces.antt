@@ -1,9 +1,6 @@
 -- Steps of the passes that make a row.
-use Rattle.std.specs.Prelude.{⊤}
 use Rattle.std.proofs.Common.{◌≡◌, ◌<◌, ◌≤◌, ◌+◌, ◌-◌, ◌⊎◌, inl, inr, ◌∙◌, ◌||◌, ◌*ℤ◌, ℕ, zero, suc, Bool, true, false, nat_lt, List, [], ◌∷◌, ◌++◌, length, take, drop, get_or, ℤ, pos, Option, refl, sym, ap, ap₂, subst, arith, add-one}
 use Rattle.std.proofs.lemmas.List.{append_assoc}
-use Rattle.std.specs.List.{list_any}
-use Rattle.std.specs.Cmp.{tied_itself}
 use Rattle.std.specs.declared.cmp.Ordering.{Ordering}
 use Rattle.std.specs.declared.cmp.Ordering.TheVariants.{Less, Equal, Greater}
 use Rattle.std.specs.Ordering.{match_ordering}
@@ -12,7 +9,7 @@ use Rattle.dz_algebra.specs.Amount.{Amount, amount, amounts}
 use Rattle.dz_algebra.specs.Derivation.{Rate, constant, unit, symbol, once_less, times_rate, term_derivative}
 use Rattle.dz_algebra.specs.Gather.{merge}
 use Rattle.dz_algebra.specs.Monomial.{Monomial, IsMonomial, exponent, with_power}
-use Rattle.dz_algebra.specs.Order.{IsOrder, IsAbove}
+use Rattle.dz_algebra.specs.Order.{IsAbove}
 use Rattle.dz_algebra.specs.Polynomial.{Polynomial, Contributions}
 use Rattle.dz_algebra.proofs.Monomials.{exponent_below, above_more}
 use Rattle.dz_rank.specs.Rankings.{RankingValue, ranking_cmp}

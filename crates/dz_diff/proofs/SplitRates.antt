@@ -1,7 +1,6 @@
 -- The contributions of a derivation whose rates come from two lists.
-use Rattle.std.proofs.Common.{◌≡◌, ◌⊎◌, inl, inr, ◌∙◌, ℕ, List, [], ◌∷◌, ◌++◌, ℤ, pos, ◌*ℤ◌, Option, Some, None, refl, sym, ap, ap₂}
+use Rattle.std.proofs.Common.{◌≡◌, ◌⊎◌, inl, inr, ◌∙◌, ℕ, [], ◌∷◌, ◌++◌, ℤ, pos, ◌*ℤ◌, Option, Some, None, refl, sym, ap, ap₂}
 use Rattle.std.specs.declared.cmp.Ordering.{Ordering}
-use Rattle.std.specs.declared.cmp.Ordering.TheVariants.{Less, Equal, Greater}
 use Rattle.std.specs.Ordering.{match_ordering}
 use Rattle.dz_algebra.specs.Amount.{Amount, amount, amounts, add_amounts, gathered}
 use Rattle.dz_algebra.specs.Derivation.{Rate, constant, once_less, times_rate, each_with_power, term_derivative, derivative_contributions}

@@ -74,12 +74,7 @@ fn rows_answer(
 }
 
 /// The derivative by the independent with a number.
-pub fn derivative(
-    alloc: Global,
-    ranking: &Ranking,
-    entry: &Entry,
-    i: u8,
-) -> Result<Entry, PolyStop>
+pub fn derivative(alloc: Global, ranking: &Ranking, entry: &Entry, i: u8) -> Result<Entry, PolyStop>
     requires entry { IsEntry ranking.now entry.now.terms.items entry.now.degrees.items }
     requires within { i < ranking.now.signature.independents }
     ensures ok { IfOk result (λ x. derivation_answer (symbols_under ranking.now) i

@@ -1,4 +1,3 @@
-use Rattle.std.proofs.Common.{◌∙◌, ap}
 use Rattle.std.proofs.lemmas.Result.{err_from_is_err_and}
 use Rattle.dz_diff.proofs.RateTables.{low_terms, rows_refused, rows_support}
 use Rattle.dz_diff.proofs.derivations.rows_support.Goals as goal

@@ -1,4 +1,4 @@
-use Rattle.std.proofs.Common.{◌≡◌, ◌≤◌, Ok, take}
+use Rattle.std.proofs.Common.{◌≡◌, Ok, take}
 use Rattle.dz_terms.specs.Entries.{IsEntry}
 use Rattle.dz_terms.specs.Ranked.{symbols_under}
 use Rattle.dz_diff.specs.Operations.{derivations_answer}

@@ -1,4 +1,4 @@
-use Rattle.std.proofs.Common.{◌≡◌, ◌<◌, ◌∙◌, ap, sym, subst, length, rules, arith}
+use Rattle.std.proofs.Common.{◌≡◌, ◌<◌, ◌∙◌, ap, sym, length, rules, arith}
 use Rattle.std.proofs.lemmas.Grind.{common_steps}
 use Rattle.std.proofs.lemmas.Result.{err_from_is_err_and}
 use Rattle.dz_algebra.specs.Amount.{gathered}
@@ -6,7 +6,6 @@ use Rattle.dz_rank.specs.Rankings.{ranking_cmp}
 use Rattle.dz_terms.specs.Cells.{caps}
 use Rattle.dz_terms.specs.Degrees.{degrees, has_high_exponent}
 use Rattle.dz_terms.proofs.SymbolLaws.{ranking_order}
-use Rattle.dz_diff.specs.Rows.{rows}
 use Rattle.dz_diff.proofs.RateLists.{front_rates, back_rates, no_rows, one_row, one_refused, rows_absorbed, front_refused, back_refused, both_low}
 use Rattle.dz_diff.proofs.rows.+rows_cells.Goals as goal
 

@@ -1,9 +1,7 @@
-use Rattle.std.proofs.Common.{◌≡◌, ◌∙◌, ◌++◌, ◌∷◌, [], ap, sym, subst}
+use Rattle.std.proofs.Common.{◌∙◌, sym, subst}
 use Rattle.std.proofs.lemmas.Result.{err_from_is_err_and}
-use Rattle.dz_algebra.specs.Amount.{amounts}
 use Rattle.dz_algebra.specs.Monomial.{IsMonomial}
 use Rattle.dz_rank.specs.Rankings.{ranking_cmp}
-use Rattle.dz_terms.specs.Cells.{caps}
 use Rattle.dz_diff.specs.Rows.{Begins}
 use Rattle.dz_diff.proofs.RowPieces.{row_at, cell_is, cell_low, cell_refused, front_is}
 use Rattle.dz_diff.proofs.rows.cell_at.Goals as goal

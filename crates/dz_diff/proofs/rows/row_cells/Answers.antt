@@ -1,4 +1,4 @@
-use Rattle.std.proofs.Common.{◌∙◌, ◌++◌, ap, ap₂, arith}
+use Rattle.std.proofs.Common.{◌∙◌, ◌++◌, ap₂, arith}
 use Rattle.std.proofs.lemmas.Result.{err_from_is_err_and}
 use Rattle.dz_rank.specs.Rankings.{ranking_cmp}
 use Rattle.dz_terms.proofs.Multiplying.{monomial_at, low_at}
