@@ -14,7 +14,8 @@ use Rattle.dz_algebra.proofs.Canonical.{are_monomials}
 use Rattle.dz_algebra.proofs.Operations.{monomial_order, nonzero_gathered, amounts-append}
 use Rattle.dz_algebra.proofs.SameAmounts.{joined_associates, landed-append, same_gathered}
 
-amounts_associate : (a b c : Amount) → add_amounts (add_amounts a b) c ≡ add_amounts a (add_amounts b c)
+-- sums of amounts associate
+pub amounts_associate : (a b c : Amount) → add_amounts (add_amounts a b) c ≡ add_amounts a (add_amounts b c)
 amounts_associate a b c =
     let e : (a.majorant + b.majorant) + c.majorant ≡ a.majorant + (b.majorant + c.majorant) = omega arith in
     ap₂ (λ t m. record { total = t; majorant = m }) (whole_ring.sum_associates a.total b.total c.total) e
@@ -30,7 +31,8 @@ joined_commutes None (Some b) = refl
 joined_commutes (Some a) None = refl
 joined_commutes (Some a) (Some b) = ap Some (amounts_commute a b)
 
-joined_swaps : (x y z : Option Amount) → joined add_amounts x (joined add_amounts y z) ≡ joined add_amounts y (joined add_amounts x z)
+-- what is joined may change places
+pub joined_swaps : (x y z : Option Amount) → joined add_amounts x (joined add_amounts y z) ≡ joined add_amounts y (joined add_amounts x z)
 joined_swaps x y z =
     sym (joined_associates add_amounts amounts_associate x y z)
     ∙ ap (λ w. joined add_amounts w z) (joined_commutes x y)

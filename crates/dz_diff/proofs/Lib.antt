@@ -7,3 +7,9 @@ pub mod Degrees
 pub mod LeaderDerivations
 pub mod OperatorLeaders
 pub mod Overs
+pub mod SplitRates
+pub mod RowTerms
+pub mod RateLists
+pub mod RateTables
+pub mod RowPieces
+pub mod OperatorAnswers

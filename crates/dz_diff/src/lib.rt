@@ -1,4 +1,13 @@
-//! Leaders and derivations in a setting, and the states that are worked on.
-//!
-//! So far there are definitions here, in `specs/`, and no function.
+//! Derivations of the terms of differential polynomials and of polynomials in a book, and the
+//! states that are worked on.
 #![tactic(auto)]
+
+mod derivations;
+mod differentiating;
+mod operators;
+mod rates;
+mod rows;
+
+pub use derivations::{derivative, partial_derivative};
+pub use differentiating::{apply, differentiate};
+pub use operators::applied;

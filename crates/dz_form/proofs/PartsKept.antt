@@ -18,7 +18,7 @@ use Rattle.dz_terms.specs.Entries.{IsKeepable}
 use Rattle.dz_terms.specs.Ranked.{symbols_under}
 use Rattle.dz_terms.proofs.Below.{small_below}
 use Rattle.dz_terms.proofs.SymbolLaws.{ranking_order}
-use Rattle.dz_terms.proofs.Support.{greatest_exponent, keys_monomials}
+use Rattle.dz_terms.proofs.SupportLaws.{greatest_exponent, keys_monomials}
 
 -- ---- fronts and backs of lists
 

@@ -16,7 +16,7 @@ use Rattle.dz_algebra.proofs.Monomials.{exponent_below, above_more}
 use Rattle.dz_algebra.proofs.Orders.{greater_reversed}
 use Rattle.dz_terms.specs.Degrees.{degrees, has_high_order, has_high_exponent, limit_of_counts, limit_by}
 use Rattle.dz_terms.proofs.Multiples.{limit_of_degrees}
-use Rattle.dz_terms.proofs.Support.{KeysAreMonomials, greatest_exponent, degrees_is, exponent_degrees}
+use Rattle.dz_terms.proofs.SupportLaws.{KeysAreMonomials, greatest_exponent, degrees_is, exponent_degrees}
 
 module _ {S : Type 0} {cmp : S → S → Ordering} (order : IsOrder cmp) where
   passed : (s : S) (p : S × ℕ) (m : Monomial S) (o : Ordering) → cmp s p.0 ≡ o → (o ≡ Equal → ⊥) → exponent cmp s (p ∷ m) ≡ exponent cmp s m

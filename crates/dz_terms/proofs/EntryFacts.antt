@@ -7,7 +7,7 @@ use Rattle.dz_algebra.proofs.Canonical.{are_monomials}
 use Rattle.dz_rank.specs.declared.symbols.Symbol.{Symbol}
 use Rattle.dz_rank.specs.Rankings.{RankingValue, ranking_cmp}
 use Rattle.dz_terms.specs.Entries.{IsEntry}
-use Rattle.dz_terms.proofs.Support.{degrees_monomial, exponent_of_degrees}
+use Rattle.dz_terms.proofs.SupportLaws.{degrees_monomial, exponent_of_degrees}
 use Rattle.dz_terms.proofs.SymbolLaws.{ranking_order}
 
 pub table_is_monomial : (r : RankingValue) (p : Polynomial Symbol) (table : Monomial Symbol) → IsEntry r p table → IsMonomial (ranking_cmp r) table

@@ -93,7 +93,7 @@ module _ {S : Type 0} {cmp : S → S → Ordering} (order : IsOrder cmp) where
           ∙ sym (landed_gather add_amounts amounts_associate by m (amounts (ts ++ us)))
 
   -- and one pass over their cells makes its cells
-  merged_parts : (ts us : Contributions S) → merge (monomial_cmp cmp) add_capped (caps (gathered cmp us)) (caps (gathered cmp ts)) ≡ caps (gathered cmp (ts ++ us))
+  pub merged_parts : (ts us : Contributions S) → merge (monomial_cmp cmp) add_capped (caps (gathered cmp us)) (caps (gathered cmp ts)) ≡ caps (gathered cmp (ts ++ us))
   merged_parts ts us =
       merge_puts (monomial_order order) add_capped (caps (gathered cmp us)) (caps (gathered cmp ts)) (falling_caps order (gathered cmp us) (falling_gathered order us)) (falling_caps order (gathered cmp ts) (falling_gathered order ts))
       ∙ sym (caps_onto (monomial_cmp cmp) (gathered cmp ts) (gathered cmp us))

@@ -3,7 +3,7 @@ pub mod MonomialPasses
 pub mod Merging
 pub mod Amounts
 pub mod Multiples
-pub mod Support
+pub mod SupportLaws
 pub mod Operations
 pub mod Places
 pub mod Finishing

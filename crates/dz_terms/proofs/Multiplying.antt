@@ -36,7 +36,7 @@ use Rattle.dz_terms.specs.declared.PolyStop.TheVariants.{Memory, Large}
 use Rattle.dz_terms.proofs.Multiples.{high_multiple}
 use Rattle.dz_terms.proofs.Operations.{operation_keepable}
 use Rattle.dz_terms.proofs.Summing.{support_of, low_entry}
-use Rattle.dz_terms.proofs.Support.{limit_of_support, degrees_product, degrees_monomial}
+use Rattle.dz_terms.proofs.SupportLaws.{limit_of_support, degrees_product, degrees_monomial}
 use Rattle.dz_terms.proofs.SymbolLaws.{ranking_order}
 
 -- ---- one pass multiplies two monomials

@@ -27,7 +27,7 @@ use Rattle.dz_terms.specs.Degrees.{degrees, limit_by}
 use Rattle.dz_terms.specs.Ranked.{symbols_under}
 use Rattle.dz_terms.proofs.Below.{small_below}
 use Rattle.dz_terms.proofs.Amounts.{concluded_caps}
-use Rattle.dz_terms.proofs.Support.{limit_of_support, greatest_exponent, keys_monomials, gathered_keys}
+use Rattle.dz_terms.proofs.SupportLaws.{limit_of_support, greatest_exponent, keys_monomials, gathered_keys}
 use Rattle.dz_terms.proofs.SymbolLaws.{ranking_order}
 
 -- the cells of contributions answer what the operation does

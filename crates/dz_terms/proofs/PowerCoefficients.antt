@@ -24,7 +24,7 @@ use Rattle.dz_terms.specs.Degrees.{degrees}
 use Rattle.dz_terms.specs.Ranked.{symbols_under}
 use Rattle.dz_terms.specs.Terms.{times_power, with_exponent}
 use Rattle.dz_terms.proofs.Below.{small_below}
-use Rattle.dz_terms.proofs.Support.{greatest_exponent, keys_monomials}
+use Rattle.dz_terms.proofs.SupportLaws.{greatest_exponent, keys_monomials}
 use Rattle.dz_terms.proofs.SymbolLaws.{ranking_order}
 
 -- ---- one more entry of a list

@@ -28,7 +28,7 @@ use Rattle.dz_terms.proofs.Amounts.{merged_sum, length-caps}
 use Rattle.dz_terms.proofs.Merging.{merge_nothing}
 use Rattle.dz_terms.proofs.Multiples.{limit_of_degrees, high_multiple}
 use Rattle.dz_terms.proofs.Operations.{concluded_is, operation_keepable}
-use Rattle.dz_terms.proofs.Support.{degrees_sum, degrees_gathered, one_pass}
+use Rattle.dz_terms.proofs.SupportLaws.{degrees_sum, degrees_gathered, one_pass}
 use Rattle.dz_terms.proofs.SymbolLaws.{ranking_order}
 
 -- ---- signs

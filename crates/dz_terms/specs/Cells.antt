@@ -1,4 +1,4 @@
--- What the cells of an operation mean, and what they answer. No public clause cites this file.
+-- What the cells of an operation mean, and what they answer. No clause about books cites this file.
 use Rattle.std.specs.Prelude.{nat_le, cond, List, [], ◌∷◌, map, Option, Some, None, Result, Ok, Err}
 use Rattle.dz_algebra.specs.declared.Limit.{Limit}
 use Rattle.dz_algebra.specs.Monomial.{Monomial}

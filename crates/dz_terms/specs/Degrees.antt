@@ -1,4 +1,4 @@
--- The degrees of a polynomial in its symbols. No public clause cites this file.
+-- The degrees of a polynomial in its symbols. No clause about books cites this file.
 use Rattle.std.specs.Prelude.{ℕ, max, nat_lt, Bool, cond, List, [], ◌∷◌, length, Option, Some, None}
 use Rattle.std.specs.declared.cmp.Ordering.{Ordering}
 use Rattle.std.specs.List.{list_any}

@@ -1,4 +1,4 @@
--- Contributions taken with a sign. No public clause cites this file.
+-- Contributions taken with a sign. No clause about books cites this file.
 use Rattle.std.specs.Prelude.{List, map, ℤ, neg_ℤ}
 use Rattle.dz_terms.specs.declared.sums.Sign.{Sign}
 use Rattle.dz_terms.specs.declared.sums.Sign.TheVariants.{Plus, Minus}

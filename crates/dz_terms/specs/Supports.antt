@@ -1,4 +1,4 @@
--- What the support of an operation is. No public clause cites this file.
+-- What the support of an operation is. No clause about books cites this file.
 use Rattle.std.specs.Prelude.{◌≡◌, false, List, length, Option}
 use Rattle.std.specs.declared.cmp.Ordering.{Ordering}
 use Rattle.dz_algebra.specs.Amount.{Amount}

@@ -61,7 +61,7 @@ fn raise_degree(
 }
 
 /// Raises the degrees to the exponents of a monomial.
-fn raise_degrees(
+pub fn raise_degrees(
     ranking: &Ranking,
     table: &mut Powers,
     powers: &[(Symbol, u16)],

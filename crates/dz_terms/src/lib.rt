@@ -6,9 +6,10 @@
 //! coefficients are too wide, whatever the order in which it adds. No book is known here.
 #![tactic(auto)]
 
-mod absorb;
+mod absorbing;
 mod cell;
 mod coefficients;
+mod copies;
 mod degrees;
 mod dividing;
 mod entry;
@@ -21,13 +22,18 @@ mod same;
 mod sums;
 mod term;
 
+pub use absorbing::absorb;
+pub use cell::Cell;
 pub use coefficients::{coefficient_entry, part_entry};
+pub use copies::copied;
+pub use degrees::raise_degrees;
 pub use dividing::{common_content, content_of, divided_entry, first_sign, into_norm, quotient_by};
 pub use dz_algebra::Limit;
 pub use entry::Entry;
 pub use factors::factor;
+pub use finish::{Support, conclude};
 pub use making::{number, power};
-pub use powers::{Powers, exponent_of};
+pub use powers::{Powers, exponent_of, multiply};
 pub use products::product;
 pub use same::same_terms;
 use std::alloc::{AllocError, AllocFailed};

@@ -16,7 +16,7 @@ ghost use Rattle.dz_terms.specs.declared.PolyStop.TheVariants.{Memory, Large};
 ghost use Rattle.dz_rank.specs.Rankings.{ranking_cmp};
 
 use crate::PolyStop;
-use crate::absorb::absorb;
+use crate::absorbing::absorb;
 use crate::cell::Cell;
 use crate::entry::Entry;
 use crate::finish::{MOST_SYMBOLS, MOST_TERMS, Support, conclude};

@@ -3,7 +3,7 @@ use Rattle.dz_algebra.specs.Monomial.{monomial_cmp}
 use Rattle.dz_algebra.specs.Gather.{merge}
 use Rattle.dz_terms.specs.Cells.{add_capped}
 use Rattle.dz_rank.specs.Rankings.{ranking_cmp}
-use Rattle.dz_terms.proofs.absorb.absorb.Given as goal
+use Rattle.dz_terms.proofs.absorbing.absorb.Given as goal
 
 abbrev pub invariant-loop-cell : goal.invariant-loop-cell
 invariant-loop-cell l = l.all.items ++ merge (monomial_cmp (ranking_cmp l.ranking)) add_capped l.cells.items l.row.items ≡ merge (monomial_cmp (ranking_cmp l.ranking)) add_capped l.initial.cells.items l.initial.row.items
