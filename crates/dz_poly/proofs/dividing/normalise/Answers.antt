@@ -10,7 +10,7 @@ use Rattle.dz_poly.proofs.dividing.normalise.Goals as goal
 pub returns-then-is_empty-clause-value : goal.returns-then-is_empty-clause-value
 returns-then-is_empty-clause-value c =
     let n : length c.entry-entry.result.now.terms.items ≡ 0 = first_of (search rules, grind (arith, common_steps)) in
-    c.entry-entry.ensures.means ∙ ap Some (norm_of_nothing c.entry-entry.result.now.terms.items n) ∙ rw c.entry-entry.ensures.value refl
+    rw (← c.entry-entry.ensures.value, norm_of_nothing c.entry-entry.result.now.terms.items n) c.zero.ensures.value
 
 pub divided_entry-requires-clause-positive : goal.divided_entry-requires-clause-positive
 divided_entry-requires-clause-positive c =
