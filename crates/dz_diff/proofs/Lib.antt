@@ -7,3 +7,4 @@ pub mod Degrees
 pub mod LeaderDerivations
 pub mod OperatorLeaders
 pub mod Overs
+pub mod Leading
