@@ -8,3 +8,4 @@ pub mod LeaderDerivations
 pub mod OperatorLeaders
 pub mod Overs
 pub mod Leading
+pub mod KeptStates

@@ -6,3 +6,4 @@ pub mod State
 pub mod Root
 pub mod Lists
 pub mod Over
+pub mod States

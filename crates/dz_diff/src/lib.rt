@@ -2,5 +2,7 @@
 #![tactic(auto)]
 
 mod parts;
+mod state;
 
 pub use parts::{initial, initial_of, leader, leader_of};
+pub use state::State;
