@@ -9,3 +9,4 @@ pub mod OperatorLeaders
 pub mod Overs
 pub mod Leading
 pub mod KeptStates
+pub mod LeaderBounds
