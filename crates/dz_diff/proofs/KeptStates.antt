@@ -1,12 +1,11 @@
 -- A state in a book stays the same while polynomials are only added to the book.
-use Rattle.std.proofs.Common.{◌≡◌, ◌∙◌, ◌<◌, ap, ap₂, refl, ℕ, zero, suc, List, [], ◌∷◌}
-use Rattle.std.specs.Prelude.{length, slice_get, slice_index_or}
+use Rattle.std.proofs.Common.{◌≡◌, ap₂, refl, ℕ, zero, suc, List, [], ◌∷◌}
+use Rattle.std.specs.Prelude.{slice_get, slice_index_or}
 use Rattle.std.proofs.lemmas.List.Elements.{All-head, All-tail, All-weaker}
 use Rattle.dz_algebra.specs.Polynomial.{Polynomial}
 use Rattle.dz_rank.specs.declared.symbols.Symbol.{Symbol}
 use Rattle.dz_poly.specs.Books.{BookValue, IsKept, Lives, polynomial}
 use Rattle.dz_poly.proofs.Books.{lives_on}
-use Rattle.dz_diff.specs.State.{State}
 use Rattle.dz_diff.specs.States.{LiveAll, StandsIn, StateValue, polynomials, state_in}
 use Rattle.dz_diff.specs.Tests.{Polynomials}
 

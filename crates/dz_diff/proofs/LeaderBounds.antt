@@ -1,33 +1,23 @@
 -- The leader is the greatest derivative, and no symbol is above it.
 use Rattle.std.specs.Prelude.{⊤}
-use Rattle.std.proofs.Common.{◌≡◌, ◌⊎◌, inl, inr, ℕ, zero, suc, ◌≤◌, ◌<◌, Bool, true, false, cond, [], ◌∷◌, length, refl, ap, ◌∙◌, arith, subst, max, Ok, Option, Some, None}
+use Rattle.std.proofs.Common.{◌≡◌, ◌⊎◌, inl, inr, ℕ, ◌≤◌, Bool, true, false, cond, [], ◌∷◌, refl, ap, ◌∙◌, arith, subst, max, Option, Some, None}
 use Rattle.std.specs.declared.cmp.Ordering.{Ordering}
 use Rattle.std.specs.declared.cmp.Ordering.TheVariants.{Less, Equal, Greater}
 use Rattle.std.specs.Ordering.{match_ordering}
 use Rattle.dz_algebra.specs.Order.{IsOrder}
-use Rattle.dz_algebra.specs.Symbols.{Symbols}
-use Rattle.dz_algebra.specs.Monomial.{Monomial, MonomialIn, monomial_cmp, exponent}
-use Rattle.dz_algebra.specs.Polynomial.{Polynomial, AreMonomials, IsPolynomial, PolynomialIn, collect}
-use Rattle.dz_algebra.specs.Derivation.{RateIn, constant, unit, rate_by, derivative_contributions}
-use Rattle.dz_algebra.specs.Parts.{coefficient_of, degree, greater, greatest_derivative, leader_from, leader}
-use Rattle.dz_algebra.specs.Size.{separant_answer}
-use Rattle.dz_algebra.proofs.Canonical.{are_monomials, collect_is}
-use Rattle.dz_algebra.proofs.Derivations.{monomials_derivative}
-use Rattle.dz_algebra.proofs.Inside.{in_collect, in_derivative}
-use Rattle.dz_algebra.proofs.Operations.{operation_is}
+use Rattle.dz_algebra.specs.Monomial.{Monomial, MonomialIn, exponent}
+use Rattle.dz_algebra.specs.Polynomial.{Polynomial, PolynomialIn}
+use Rattle.dz_algebra.specs.Parts.{degree, greater, greatest_derivative, leader_from, leader}
 use Rattle.dz_algebra.proofs.Orders.{less_reversed}
 use Rattle.dz_rank.specs.Rankings.{RankingValue, ranking_cmp}
-use Rattle.dz_rank.specs.Symbols.{IsOperatorOf, derivative_by, is_derivative}
+use Rattle.dz_rank.specs.Symbols.{is_derivative}
 use Rattle.dz_rank.specs.declared.symbols.Operator.{Operator}
 use Rattle.dz_rank.specs.declared.symbols.Symbol.{Symbol}
 use Rattle.dz_rank.specs.declared.symbols.Symbol.TheVariants.{Independent, Derivative}
 use Rattle.dz_terms.specs.Ranked.{symbols_under}
 use Rattle.dz_terms.proofs.SymbolLaws.{ranking_order}
-use Rattle.dz_diff.specs.Operators.{is_proper}
-use Rattle.dz_diff.specs.Operations.{operator_answer, setting_of}
-use Rattle.dz_diff.proofs.MarkedSums.{EachMonomial, Free, exponent_free}
 use Rattle.dz_diff.proofs.LeaderDerivations.{ranking_raises, IsRegular, IsUnder}
-use Rattle.dz_diff.proofs.Degrees.{AtMost, IsWithout}
+use Rattle.dz_diff.proofs.Degrees.{AtMost}
 
 -- ---- the leader
 module _ (R : RankingValue) where
@@ -76,7 +66,8 @@ module _ (R : RankingValue) where
       let next : Option Symbol = cond (is_derivative x.0) (greater cmp x.0 o) o in
       (λ e. polynomial_keeps p (greatest_derivative (symbols_under R) m next) x.0 (monomial_keeps m next x.0 (new_of (is_derivative x.0) x.0 o e)), monomial_all p m next)
 
-  leader_all : (p : Polynomial Symbol) (o : Option Symbol) → PolynomialIn (λ s. is_derivative s ≡ true → IsTop (leader_from (symbols_under R) p o) s) p
+  -- no derivative is above the leader
+  pub leader_all : (p : Polynomial Symbol) (o : Option Symbol) → PolynomialIn (λ s. is_derivative s ≡ true → IsTop (leader_from (symbols_under R) p o) s) p
   leader_all [] o = tt
   leader_all (t ∷ p) o = (monomial_all p t.0 o, leader_all p (greatest_derivative (symbols_under R) t.0 o))
 

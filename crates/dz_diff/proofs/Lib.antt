@@ -10,3 +10,5 @@ pub mod Overs
 pub mod Leading
 pub mod KeptStates
 pub mod LeaderBounds
+pub mod Separants
+pub mod ProperDerivatives

@@ -7,3 +7,4 @@ pub mod Root
 pub mod Lists
 pub mod Over
 pub mod States
+pub mod Laws

@@ -1,6 +1,7 @@
 //! Leaders and derivations in a setting, and the states that are worked on.
 #![tactic(auto)]
 
+pub mod laws;
 mod parts;
 mod state;
 

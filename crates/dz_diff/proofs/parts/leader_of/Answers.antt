@@ -1,4 +1,4 @@
-use Rattle.std.proofs.Common.{◌≡◌, ◌==◌, false, true, length, rules, arith, ap, sym, subst, ◌∙◌}
+use Rattle.std.proofs.Common.{sym, subst, ◌∙◌}
 use Rattle.dz_terms.specs.Entries.{IsEntry}
 use Rattle.dz_diff.proofs.Leading.{no_symbol_leads, no_derivative_leads, derivative_leads}
 use Rattle.dz_diff.proofs.parts.leader_of.Goals as goal
