@@ -1,7 +1,5 @@
 -- A step lowers the degree at the operator's derivative of the leader.
-use Rattle.std.specs.Prelude.{⊤}
-use Rattle.std.proofs.Common.{◌≡◌, ◌⊎◌, inl, inr, ℕ, zero, suc, ◌≤◌, ◌<◌, Bool, true, false, cond, [], ◌∷◌, length, refl, ap, ◌∙◌, arith, subst, max, Ok, Option, Some, None}
-use Rattle.std.specs.declared.cmp.Ordering.{Ordering}
+use Rattle.std.proofs.Common.{◌≡◌, inl, inr, ℕ, zero, suc, ◌≤◌, ◌<◌, true, [], ◌∷◌, length, refl, ap, ◌∙◌, arith, subst, Ok, Some}
 use Rattle.std.specs.declared.cmp.Ordering.TheVariants.{Less, Equal, Greater}
 use Rattle.std.specs.Ordering.{match_ordering}
 use Rattle.dz_algebra.specs.Order.{IsOrder}
@@ -9,24 +7,23 @@ use Rattle.dz_algebra.specs.Symbols.{Symbols}
 use Rattle.dz_algebra.specs.Monomial.{Monomial, MonomialIn, monomial_cmp, exponent}
 use Rattle.dz_algebra.specs.Polynomial.{Polynomial, AreMonomials, IsPolynomial, PolynomialIn, collect}
 use Rattle.dz_algebra.specs.Derivation.{RateIn, constant, unit, rate_by, derivative_contributions}
-use Rattle.dz_algebra.specs.Parts.{coefficient_of, degree, greater, greatest_derivative, leader_from, leader}
+use Rattle.dz_algebra.specs.Parts.{coefficient_of, degree, leader}
 use Rattle.dz_algebra.specs.Size.{separant_answer}
 use Rattle.dz_algebra.proofs.Canonical.{are_monomials, collect_is}
 use Rattle.dz_algebra.proofs.Derivations.{monomials_derivative}
 use Rattle.dz_algebra.proofs.Inside.{in_collect, in_derivative}
 use Rattle.dz_algebra.proofs.Operations.{operation_is}
-use Rattle.dz_algebra.proofs.Orders.{less_reversed}
 use Rattle.dz_rank.specs.Rankings.{RankingValue, ranking_cmp}
-use Rattle.dz_rank.specs.Symbols.{IsOperatorOf, derivative_by, is_derivative}
+use Rattle.dz_rank.specs.Symbols.{IsOperatorOf, derivative_by}
 use Rattle.dz_rank.specs.declared.symbols.Operator.{Operator}
 use Rattle.dz_rank.specs.declared.symbols.Symbol.{Symbol}
-use Rattle.dz_rank.specs.declared.symbols.Symbol.TheVariants.{Independent, Derivative}
+use Rattle.dz_rank.specs.declared.symbols.Symbol.TheVariants.{Derivative}
 use Rattle.dz_terms.specs.Ranked.{symbols_under}
 use Rattle.dz_terms.proofs.SymbolLaws.{ranking_order}
 use Rattle.dz_diff.specs.Operators.{is_proper}
 use Rattle.dz_diff.specs.Operations.{operator_answer, setting_of}
 use Rattle.dz_diff.proofs.MarkedSums.{EachMonomial, Free, exponent_free}
-use Rattle.dz_diff.proofs.LeaderDerivations.{ranking_raises, IsRegular, IsUnder}
+use Rattle.dz_diff.proofs.LeaderDerivations.{IsRegular, IsUnder}
 use Rattle.dz_diff.proofs.LeaderBounds.{under_leader, leader_regular, most_degree, degree_most}
 use Rattle.dz_diff.proofs.OperatorLeaders.{leader_of_operator, derivative_grows}
 use Rattle.dz_diff.proofs.Degrees.{AtMost, IsWithout}

@@ -1,6 +1,5 @@
-use Rattle.std.proofs.Common.{◌≡◌, ◌==◌, ◌∙◌, false, length, pos, ap, refl, rules, arith}
+use Rattle.std.proofs.Common.{◌≡◌, ◌==◌, ◌∙◌, false, length, pos, ap, rules, arith}
 use Rattle.std.proofs.lemmas.Grind.{common_steps}
-use Rattle.std.specs.Prelude.{Some}
 use Rattle.dz_algebra.specs.Norm.{content, signed_content}
 use Rattle.dz_terms.specs.Signs.{signed}
 use Rattle.dz_terms.proofs.Divisibility.{content_positive_in_range, norm_entry, norm_value, norm_of_nothing}
