@@ -13,3 +13,8 @@ pub mod RateLists
 pub mod RateTables
 pub mod RowPieces
 pub mod OperatorAnswers
+pub mod Leading
+pub mod KeptStates
+pub mod LeaderBounds
+pub mod Separants
+pub mod ProperDerivatives

@@ -248,16 +248,16 @@ module _ (R : RankingValue) (u : ℕ) (s : Polynomial Symbol) where
       reached_from (suc i) js (plus k c) (ups i k ks) b.0 q (omega arith) (reached_derived i k c ks p b.0 (omega arith) h b.1) b.2
 
   -- a proper derivative of q is linear in the derivative of q's leader, which no symbol is above, with the separant as coefficient
-  pub leader_of_operator : R.signature.independents ≤ 4 → (t : Operator) (ks : List ℕ) (q p : Polynomial Symbol) → length ks ≡ 4 → IsOperatorOf R.signature.independents t → IsPolynomial (ranking_cmp R) q → PolynomialIn (IsUnder (ranking_cmp R) 4 (Derivative u (record { counts = ks }))) q
-      → separant_answer (symbols_under R) (Derivative u (record { counts = ks })) q ≡ Ok s → is_proper t ≡ true → operator_answer (setting_of R) t q ≡ Ok p
+  pub operator_leads : R.signature.independents ≤ 4 → (t : Operator) (ks : List ℕ) (q p : Polynomial Symbol) → length ks ≡ 4 → IsOperatorOf R.signature.independents t → IsPolynomial (ranking_cmp R) q → PolynomialIn (IsUnder (ranking_cmp R) 4 (Derivative u (record { counts = ks }))) q
+      → collect (monomial_cmp (ranking_cmp R)) (derivative_contributions (ranking_cmp R) (rate_by (ranking_cmp R) (Derivative u (record { counts = ks }))) q) ≡ s → is_proper t ≡ true → operator_answer (setting_of R) t q ≡ Ok p
       → IsPolynomial (ranking_cmp R) p × PolynomialIn (IsUnder (ranking_cmp R) 4 (derivative_by t (Derivative u (record { counts = ks })))) p × EachMonomial (λ m. exponent (ranking_cmp R) (derivative_by t (Derivative u (record { counts = ks }))) m ≤ 1) p
       × (collect (monomial_cmp (ranking_cmp R)) (coefficient_of (ranking_cmp R) (derivative_by t (Derivative u (record { counts = ks }))) 1 p) ≡ s)
-  leader_of_operator few t ks q p regular fits canonical under e proper f =
+  operator_leads few t ks q p regular fits canonical under e proper f =
       let n : ℕ = R.signature.independents in
       let js : List ℕ = take n t.counts in
       let zeros : Zeros (drop n t.counts) = zeros_of (drop n t.counts) fits.zeros in
       let short : length js ≤ length ks = omega (arith, take_within n t.counts, fits.size) in
-      let start : Reached 0 ks q = (regular, canonical, under, operation_is g (derivative_contributions g.cmp (rate_by g.cmp (lifted ks)) q) s e, λ z. absurd (omega arith)) in
+      let start : Reached 0 ks q = (regular, canonical, under, e, λ z. absurd (omega arith)) in
       let end : Reached (many js 0) (all_ups 0 js ks) p = reached_from 0 js 0 ks q p (omega arith) start f in
       let same : all_ups 0 js ks ≡ exponent_sums ks t.counts = all_ups_is js ks short ∙ sums_take n ks t.counts (omega (arith, fits.size)) zeros in
       let there : Reached (many js 0) (exponent_sums ks t.counts) p = subst (λ ks. Reached (many js 0) ks p) same end in
@@ -268,6 +268,13 @@ module _ (R : RankingValue) (u : ℕ) (s : Polynomial Symbol) where
       positive : (k : ℕ) → not (k == 0) ≡ true → 0 < k
       positive zero h = cc
       positive (suc k) h = omega arith
+
+  -- so it is where the separant is answered
+  pub leader_of_operator : R.signature.independents ≤ 4 → (t : Operator) (ks : List ℕ) (q p : Polynomial Symbol) → length ks ≡ 4 → IsOperatorOf R.signature.independents t → IsPolynomial (ranking_cmp R) q → PolynomialIn (IsUnder (ranking_cmp R) 4 (Derivative u (record { counts = ks }))) q
+      → separant_answer (symbols_under R) (Derivative u (record { counts = ks })) q ≡ Ok s → is_proper t ≡ true → operator_answer (setting_of R) t q ≡ Ok p
+      → IsPolynomial (ranking_cmp R) p × PolynomialIn (IsUnder (ranking_cmp R) 4 (derivative_by t (Derivative u (record { counts = ks })))) p × EachMonomial (λ m. exponent (ranking_cmp R) (derivative_by t (Derivative u (record { counts = ks }))) m ≤ 1) p
+      × (collect (monomial_cmp (ranking_cmp R)) (coefficient_of (ranking_cmp R) (derivative_by t (Derivative u (record { counts = ks }))) 1 p) ≡ s)
+  leader_of_operator few t ks q p regular fits canonical under e = operator_leads few t ks q p regular fits canonical under (operation_is g (derivative_contributions g.cmp (rate_by g.cmp (lifted ks)) q) s e)
 
 -- a proper operator raises a derivative
 pub derivative_grows : (R : RankingValue) (t : Operator) (l : Symbol) → IsTrue (is_derivative l) → is_proper t ≡ true → ranking_cmp R l (derivative_by t l) ≡ Less

@@ -7,3 +7,5 @@ pub mod Root
 pub mod Lists
 pub mod Over
 pub mod Rows
+pub mod States
+pub mod Laws

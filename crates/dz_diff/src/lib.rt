@@ -1,13 +1,18 @@
-//! Derivations of the terms of differential polynomials and of polynomials in a book, and the
-//! states that are worked on.
+//! Leaders, initials, separants and derivations of differential polynomials, on entries and in a
+//! book, and the states that are worked on.
 #![tactic(auto)]
 
 mod derivations;
 mod differentiating;
+pub mod laws;
 mod operators;
+mod parts;
 mod rates;
 mod rows;
+mod state;
 
 pub use derivations::{derivative, partial_derivative};
 pub use differentiating::{apply, differentiate};
 pub use operators::applied;
+pub use parts::{initial, initial_of, leader, leader_of};
+pub use state::State;

@@ -38,7 +38,7 @@ use Rattle.dz_step.specs.declared.Which.TheVariants.{Initial, Separant}
 use Rattle.dz_step.specs.Step.{multiplier_answer, multiplier_of, step_degree, step_in}
 use Rattle.dz_step.specs.FullRun.{derivatives_of, next_step}
 use Rattle.dz_step.proofs.TakenSteps.{StepParts, taken_step, good_step}
-use Rattle.dz_step.proofs.StepsLower.{all_map, leader_in, leader_is_one}
+use Rattle.dz_diff.proofs.LeaderBounds.{all_map, leader_in, leader_is_one}
 use Rattle.dz_step.proofs.Falls.{leader_degree}
 use Rattle.dz_step.proofs.NextSteps.{derivative_quotient, found_first, in_derivatives}
 use Rattle.dz_pair.specs.Pair.{delta_answer}

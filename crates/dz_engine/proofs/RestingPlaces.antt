@@ -26,7 +26,7 @@ use Rattle.dz_step.specs.declared.Step.{Step}
 use Rattle.dz_step.specs.declared.Which.TheVariants.{Initial, Separant}
 use Rattle.dz_step.specs.Step.{multiplier_answer, permitted_if}
 use Rattle.dz_step.specs.FullRun.{next_step, admits}
-use Rattle.dz_step.proofs.StepsLower.{leader_is_one}
+use Rattle.dz_diff.proofs.LeaderBounds.{leader_is_one}
 use Rattle.dz_step.proofs.Falls.{leader_degree}
 use Rattle.dz_step.proofs.NoSteps.{no_step_at}
 use Rattle.dz_pair.specs.Pair.{critical_pairs}

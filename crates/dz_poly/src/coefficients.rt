@@ -2,7 +2,7 @@
 
 ghost use Rattle.std.specs.Prelude.{◌≡◌, IfOk, IfErr, OnOk, OnErr};
 ghost use Rattle.dz_algebra.specs.Parts.{coefficient_of as coefficient};
-ghost use Rattle.dz_poly.specs.Books.{IsKept, Lives, Means, polynomial};
+ghost use Rattle.dz_poly.specs.Books.{IsAdded, IsKept, Lives, Means, polynomial};
 ghost use Rattle.dz_terms.specs.declared.PolyStop.TheVariants.{Memory};
 ghost use Rattle.dz_rank.specs.Rankings.{ranking_cmp};
 
@@ -18,6 +18,7 @@ pub fn coefficient_of(book: &mut Book, a: Poly, s: Symbol, k: u16) -> Result<Pol
         (coefficient (ranking_cmp book.old.ranking) s k (polynomial book.old a))) }
     ensures memory { IfErr result (λ e. e ≡ Memory) }
     ensures kept { OnOk result (IsKept book.old book.new) }
+    ensures added { IfOk result (λ p. IsAdded book.old book.new p) }
     ensures refused { OnErr result (book.new ≡ book.old) }
 {
     let coefficient = coefficient_entry(book.allocator(), book.ranking(), book.entry(a), s, k)?;

@@ -48,7 +48,8 @@ use Rattle.dz_step.proofs.TakenSteps.{leader_is_derivative, taken_step, good_ste
 use Rattle.dz_step.proofs.NoSteps.{none_is_step}
 use Rattle.dz_step.proofs.NextSteps.{Limited, next_step_is_step}
 use Rattle.dz_step.proofs.Lowering.{each_coefficient, each_monomial}
-use Rattle.dz_step.proofs.StepsLower.{Lowers, proper_lowers, lowers, leader_in, under_leader, leader_regular, zero_above, degree_most}
+use Rattle.dz_diff.proofs.LeaderBounds.{leader_in, under_leader, leader_regular, degree_most}
+use Rattle.dz_step.proofs.StepsLower.{Lowers, proper_lowers, lowers, zero_above}
 
 zero_of : (k : ℕ) → not (k == 0) ≡ false → k ≡ 0
 zero_of k h = by_test (k == 0) refl h

@@ -28,7 +28,7 @@ use Rattle.dz_step.specs.declared.Role.{Role}
 use Rattle.dz_step.specs.declared.Step.{Step}
 use Rattle.dz_step.specs.Step.{Stop, refused, no_step, multiplier_answer, multiplier_of, is_divisor, is_permitted, step_degree, step_by, step_answer, step_in}
 use Rattle.dz_step.specs.FullRun.{with_derivatives, derivatives_of, or_else, step_with, step_at, first_step, next_step}
-use Rattle.dz_step.proofs.StepsLower.{leader_regular}
+use Rattle.dz_diff.proofs.LeaderBounds.{leader_regular}
 
 -- ---- answers that only an operation refuses
 -- an operation is refused

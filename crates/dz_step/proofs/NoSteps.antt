@@ -32,7 +32,7 @@ use Rattle.dz_step.specs.declared.Step.{Step}
 use Rattle.dz_step.specs.Step.{Stop, no_step, is_divisor, is_permitted, step_degree, step_in}
 use Rattle.dz_step.specs.FullRun.{with_derivatives, derivatives_of, or_else, step_with, step_at, first_step, next_step}
 use Rattle.dz_step.proofs.TakenSteps.{leader_is_derivative}
-use Rattle.dz_step.proofs.StepsLower.{leader_regular}
+use Rattle.dz_diff.proofs.LeaderBounds.{leader_regular}
 
 -- a conjunction holds with both parts
 and_is : (a b : Bool) → a ≡ true → b ≡ true → (a && b) ≡ true

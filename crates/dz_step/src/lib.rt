@@ -1,13 +1,18 @@
 //! Steps of Ritt's reduction, runs of them, and full runs.
 //!
-//! So far there are definitions here, in `specs/`, with the data that they speak of, and the laws
-//! of them in `laws`.
+//! So far there are lists of steps, and of runs the definitions in `specs/` and the laws in `laws`.
 #![tactic(auto)]
+
+ghost use Rattle.std.specs.Prelude.{◌≡◌};
+ghost use Rattle.dz_rank.specs.Symbols.{identity};
 
 pub mod laws;
 mod reducing;
+mod steps;
 
+pub use dz_diff::State;
 use dz_rank::Operator;
+pub use steps::StepList;
 
 /// The multiplier of a step or a split: the initial or the separant of an equation.
 #[derive(Clone, Copy, Debug, PartialEq, Eq, Hash)]
@@ -22,6 +27,20 @@ pub enum Which {
 pub struct Step {
     pub place: u16,
     pub operator: Operator,
+}
+
+/// Place 0 with no derivation, which is no step, so that steps can be kept in small vectors.
+impl Default for Step {
+    fn default() -> Step
+        ensures { result ≡ record { place = 0; operator = identity } }
+    {
+        Step {
+            place: 0,
+            operator: Operator {
+                counts: [0, 0, 0, 0],
+            },
+        }
+    }
 }
 
 /// What a run is on: any polynomial, or the equation or inequation at a place of the state.

@@ -140,7 +140,7 @@ pub content_positive_in_range : (r : RankingValue) (p : Polynomial Symbol) → I
 content_positive_in_range r [] h n = absurd (n refl)
 content_positive_in_range r (t ∷ p) h n = (content_positive t p h.canonical.0, content_in_range t p h.canonical.0 (All-head {X = Monomial Symbol × ℤ} (λ t. unsigned_abs t.1 ≤ greatest) t p h.in_range))
 
-pub norm_of_nothing : {M : Type 0} (p : List (M × ℤ)) → length p ≡ 0 → p ≡ norm p
+pub norm_of_nothing : {M : Type 0} (p : List (M × ℤ)) → length p ≡ 0 → norm p ≡ []
 unfolding norm
 norm_of_nothing [] e = refl
 norm_of_nothing (t ∷ p) e = absurd (omega arith)

@@ -1,6 +1,5 @@
-use Rattle.std.proofs.Common.{◌≡◌, ◌==◌, ◌∙◌, false, length, pos, ap, refl, rules, arith}
+use Rattle.std.proofs.Common.{◌≡◌, ◌==◌, ◌∙◌, false, length, pos, ap, rules, arith}
 use Rattle.std.proofs.lemmas.Grind.{common_steps}
-use Rattle.std.specs.Prelude.{Some}
 use Rattle.dz_algebra.specs.Norm.{content, signed_content}
 use Rattle.dz_terms.specs.Signs.{signed}
 use Rattle.dz_terms.proofs.Divisibility.{content_positive_in_range, norm_entry, norm_value, norm_of_nothing}
@@ -10,7 +9,7 @@ use Rattle.dz_poly.proofs.dividing.normalise.Goals as goal
 pub returns-then-is_empty-clause-value : goal.returns-then-is_empty-clause-value
 returns-then-is_empty-clause-value c =
     let n : length c.entry-entry.result.now.terms.items ≡ 0 = first_of (search rules, grind (arith, common_steps)) in
-    c.entry-entry.ensures.means ∙ ap Some (norm_of_nothing c.entry-entry.result.now.terms.items n) ∙ rw c.entry-entry.ensures.value refl
+    rw (← c.entry-entry.ensures.value, norm_of_nothing c.entry-entry.result.now.terms.items n) c.zero.ensures.value
 
 pub divided_entry-requires-clause-positive : goal.divided_entry-requires-clause-positive
 divided_entry-requires-clause-positive c =

@@ -1,0 +1,78 @@
+//! The leader and the initial.
+
+ghost use Rattle.std.specs.Prelude.{◌≡◌, false, IfOk, IfErr, IfSome, OnOk, OnErr};
+ghost use Rattle.dz_algebra.specs.Parts.{initial, is_ground, leader};
+ghost use Rattle.dz_poly.specs.Books.{IsAdded, IsKept, Lives, Means, polynomial};
+ghost use Rattle.dz_rank.specs.Rankings.{RankingValue, ranking_cmp};
+ghost use Rattle.dz_terms.specs.Entries.{IsEntry};
+ghost use Rattle.dz_terms.specs.Ranked.{symbols_under};
+ghost use Rattle.dz_terms.specs.declared.PolyStop.TheVariants.{Memory};
+
+use dz_poly::{Book, Poly, PolyStop};
+use dz_rank::{Ranking, Symbol};
+use dz_terms::{Entry, coefficient_entry, exponent_of};
+use std::alloc::{AllocError, Global};
+
+/// The leader, and `None` where no derivative occurs.
+///
+/// Every derivative is greater than every independent, so the greatest symbol tells.
+pub fn leader_of(entry: &Entry) -> Option<Symbol>
+    ensures { (r : RankingValue) → IsEntry r entry.now.terms.items entry.now.degrees.items
+        → result ≡ leader (symbols_under r) entry.now.terms.items }
+{
+    let table = entry.degrees.as_slice();
+    if table.is_empty() {
+        return None;
+    }
+    match table[0].0 {
+        Symbol::Independent(_) => None,
+        derivative => Some(derivative),
+    }
+}
+
+#[tactic(auto, using(dz_terms::proofs::EntryFacts::table_is_monomial, dz_terms::proofs::EntryFacts::degree_stands,))]
+/// The initial by a symbol: the coefficient of its highest power.
+pub fn initial_of(
+    alloc: Global,
+    ranking: &Ranking,
+    entry: &Entry,
+    symbol: Symbol,
+) -> Result<Entry, AllocError>
+    requires { IsEntry ranking.now entry.now.terms.items entry.now.degrees.items }
+    ensures terms { IfOk result (λ all. all.terms.items
+        ≡ initial (ranking_cmp ranking.now) symbol entry.now.terms.items) }
+    ensures entry { IfOk result (λ all.
+        IsEntry ranking.now all.terms.items all.degrees.items) }
+{
+    let degree = exponent_of(ranking, entry.degrees.as_slice(), symbol);
+    coefficient_entry(alloc, ranking, entry, symbol, degree)
+}
+
+/// The leader, and `None` where the polynomial is ground.
+pub fn leader(book: &Book, p: Poly) -> Option<Symbol>
+    requires { Lives book.now p }
+    ensures { result ≡ leader (symbols_under book.now.ranking) (polynomial book.now p) }
+{
+    leader_of(book.entry(p))
+}
+
+#[tactic(auto, using(crate::proofs::Leading::unled_not_led))]
+/// The initial of a polynomial that is not ground: the coefficient of the highest power of its
+/// leader.
+pub fn initial(book: &mut Book, p: Poly) -> Result<Poly, PolyStop>
+    requires lives { Lives book.old p }
+    requires led { is_ground (symbols_under book.old.ranking) (polynomial book.old p) ≡ false }
+    ensures value { IfOk result (λ q.
+        IfSome (leader (symbols_under book.old.ranking) (polynomial book.old p)) (λ l. Means book.new q
+        (initial (ranking_cmp book.old.ranking) l (polynomial book.old p)))) }
+    ensures memory { IfErr result (λ e. e ≡ Memory) }
+    ensures kept { OnOk result (IsKept book.old book.new) }
+    ensures added { IfOk result (λ q. IsAdded book.old book.new q) }
+    ensures refused { OnErr result (book.new ≡ book.old) }
+{
+    let Some(leader) = leader_of(book.entry(p)) else {
+        unreachable!()
+    };
+    let initial = initial_of(book.allocator(), book.ranking(), book.entry(p), leader)?;
+    Ok(book.keep(initial)?)
+}

@@ -1,0 +1,81 @@
+//! States by the names of their polynomials.
+
+ghost use Rattle.std.specs.Prelude.{◌≡◌};
+
+use dz_poly::{Book, Poly};
+use std::marker::Model;
+
+/// Equations and inequations of a book, and the number of forks above them.
+#[derive(Drop)]
+pub struct State {
+    equations: Vec<Poly>,
+    inequations: Vec<Poly>,
+    splits: u16,
+}
+
+impl Model for State {
+    ghost use Rattle.dz_diff.specs.States.{StateValue};
+
+    ghost Value = { StateValue };
+
+    ghost view = { λ s. record {
+      equations = s.equations.items;
+      inequations = s.inequations.items;
+      splits = s.splits;
+    } };
+}
+
+impl State {
+    ghost use Rattle.std.specs.Prelude.{◌≡◌};
+    ghost use Rattle.dz_diff.specs.States.{IsStateOf, StandsIn, state_in};
+    ghost use Rattle.dz_terms.specs.Ranked.{symbols_under};
+
+    /// The state with these lists, which have all that is true of a state that is reached from a
+    /// root.
+    pub fn new(book: &Book, equations: Vec<Poly>, inequations: Vec<Poly>, splits: u16) -> State
+        requires lives { StandsIn book.now (record {
+          equations = equations.items;
+          inequations = inequations.items;
+          splits = splits;
+        }) }
+        requires reached { IsStateOf (symbols_under book.now.ranking) (state_in book.now (record {
+          equations = equations.items;
+          inequations = inequations.items;
+          splits = splits;
+        })) }
+        ensures { result ≡ record {
+          equations = equations.items;
+          inequations = inequations.items;
+          splits = splits;
+        } }
+    {
+        // The book is for the contract alone.
+        let _ = book;
+        State {
+            equations,
+            inequations,
+            splits,
+        }
+    }
+
+    /// The equations, in their order.
+    pub fn equations(&self) -> &[Poly]
+        ensures { result.now ≡ self.now.equations }
+    {
+        self.equations.as_slice()
+    }
+
+    /// The inequations, in their order.
+    pub fn inequations(&self) -> &[Poly]
+        ensures { result.now ≡ self.now.inequations }
+    {
+        self.inequations.as_slice()
+    }
+
+    /// The number of forks above.
+    pub fn splits(&self) -> u16
+        ensures { result ≡ self.now.splits }
+    {
+        self.splits
+    }
+}
