@@ -145,6 +145,12 @@ unfolding norm
 norm_of_nothing [] e = refl
 norm_of_nothing (t ∷ p) e = absurd (omega arith)
 
+-- the norm of no terms is what it was
+pub nothing_is_normal : {M : Type 0} (p : List (M × ℤ)) → length p ≡ 0 → p ≡ norm p
+unfolding norm
+nothing_is_normal [] e = refl
+nothing_is_normal (t ∷ p) e = absurd (omega arith)
+
 -- ---- division in place
 -- at its beginning nothing is divided
 pub none_divided : {M : Type 0} (k : ℤ) (p : List (M × ℤ)) → p ≡ divided k (take 0 p) ++ drop 0 p

@@ -2,14 +2,14 @@ use Rattle.std.proofs.Common.{◌≡◌, ◌==◌, ◌∙◌, false, length, pos
 use Rattle.std.proofs.lemmas.Grind.{common_steps}
 use Rattle.dz_algebra.specs.Norm.{content, signed_content}
 use Rattle.dz_terms.specs.Signs.{signed}
-use Rattle.dz_terms.proofs.Divisibility.{content_positive_in_range, norm_entry, norm_value, norm_of_nothing}
+use Rattle.dz_terms.proofs.Divisibility.{content_positive_in_range, norm_entry, norm_value, nothing_is_normal}
 use Rattle.dz_terms.proofs.Multiplying.{not_empty}
 use Rattle.dz_terms.proofs.dividing.into_norm.Goals as goal
 
 pub returns-then-is_empty-clause-terms : goal.returns-then-is_empty-clause-terms
 returns-then-is_empty-clause-terms c =
     let n : length c.args.entry.terms.items ≡ 0 = first_of (search rules, grind (arith, common_steps)) in
-    norm_of_nothing c.args.entry.terms.items n
+    nothing_is_normal c.args.entry.terms.items n
 
 pub divide-requires-clause-positive : goal.divide-requires-clause-positive
 divide-requires-clause-positive c =
