@@ -1,12 +1,14 @@
 -- The leader is the greatest derivative, and no symbol is above it.
 use Rattle.std.specs.Prelude.{⊤}
-use Rattle.std.proofs.Common.{◌≡◌, ◌⊎◌, inl, inr, ℕ, ◌≤◌, Bool, true, false, cond, [], ◌∷◌, refl, ap, ◌∙◌, arith, subst, max, Option, Some, None}
+use Rattle.std.proofs.Common.{◌≡◌, ◌⊎◌, inl, inr, ℕ, zero, suc, ◌+◌, ◌<◌, ◌≤◌, Bool, true, false, cond, [], ◌∷◌, refl, ap, ◌∙◌, arith, subst, max, Option, Some, None}
 use Rattle.std.specs.declared.cmp.Ordering.{Ordering}
 use Rattle.std.specs.declared.cmp.Ordering.TheVariants.{Less, Equal, Greater}
 use Rattle.std.specs.Ordering.{match_ordering}
 use Rattle.dz_algebra.specs.Order.{IsOrder}
-use Rattle.dz_algebra.specs.Monomial.{Monomial, MonomialIn, exponent}
-use Rattle.dz_algebra.specs.Polynomial.{Polynomial, PolynomialIn}
+use Rattle.dz_algebra.specs.Monomial.{Monomial, IsMonomial, MonomialIn, exponent}
+use Rattle.dz_algebra.specs.Polynomial.{Polynomial, AreMonomials, IsPolynomial, PolynomialIn}
+use Rattle.dz_algebra.proofs.Canonical.{are_monomials}
+use Rattle.std.specs.Cmp.{tied_itself}
 use Rattle.dz_algebra.specs.Parts.{degree, greater, greatest_derivative, leader_from, leader}
 use Rattle.dz_algebra.proofs.Orders.{less_reversed}
 use Rattle.dz_rank.specs.Rankings.{RankingValue, ranking_cmp}
@@ -164,3 +166,30 @@ module _ (cmp : Symbol → Symbol → Ordering) (u : Symbol) where
 
       second : (x y : ℕ) → y ≤ max x y
       second x y = omega arith
+
+module _ (R : RankingValue) where
+  -- ---- the leader occurs
+  no_leader : (l : Symbol) (m : Monomial Symbol) → IsMonomial (ranking_cmp R) m → exponent (ranking_cmp R) l m ≤ 0 → MonomialIn (λ s. is_derivative s ≡ true → s ≡ l → ⊥) m
+  no_leader l [] i h = tt
+  no_leader l (p ∷ m) i h = ((λ z e. here (ranking_cmp R l p.0) p.1 (exponent (ranking_cmp R) l m) (ap (ranking_cmp R l) e ∙ tied_itself (ranking_order R).total l) i.0 h), no_leader l m i.2 (there (ranking_cmp R l p.0) p.1 (exponent (ranking_cmp R) l m) h))
+    where
+      here : (o : Ordering) (a x : ℕ) → o ≡ Equal → 0 < a → match_ordering o x (a + x) x ≤ 0 → ⊥
+      here Less a x e z h = cc
+      here Equal a x e z h = omega arith
+      here Greater a x e z h = cc
+
+      there : (o : Ordering) (a x : ℕ) → match_ordering o x (a + x) x ≤ 0 → x ≤ 0
+      there Less a x h = h
+      there Equal a x h = omega arith
+      there Greater a x h = h
+
+  never_leader : (l : Symbol) (q : Polynomial Symbol) → AreMonomials (ranking_cmp R) q → AtMost (ranking_cmp R) l 0 q → PolynomialIn (λ s. is_derivative s ≡ true → s ≡ l → ⊥) q
+  never_leader l [] i h = tt
+  never_leader l (t ∷ q) i h = (no_leader l t.0 i.0 h.0, never_leader l q i.1 h.1)
+
+  pub leader_degree : (l : Symbol) (q : Polynomial Symbol) → IsPolynomial (ranking_cmp R) q → leader (symbols_under R) q ≡ Some l → 1 ≤ degree (ranking_cmp R) l q
+  leader_degree l q i e = by_degree (degree (ranking_cmp R) l q) (degree_most (ranking_cmp R) l q)
+    where
+      by_degree : (d : ℕ) → AtMost (ranking_cmp R) l d q → 1 ≤ d
+      by_degree zero a = absurd (leader_in R (λ s. s ≡ l → ⊥) q l e (never_leader l q (are_monomials (ranking_order R) q i) a) refl)
+      by_degree (suc d) a = omega arith

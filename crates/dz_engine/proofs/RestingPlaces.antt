@@ -27,7 +27,7 @@ use Rattle.dz_step.specs.declared.Which.TheVariants.{Initial, Separant}
 use Rattle.dz_step.specs.Step.{multiplier_answer, permitted_if}
 use Rattle.dz_step.specs.FullRun.{next_step, admits}
 use Rattle.dz_diff.proofs.LeaderBounds.{leader_is_one}
-use Rattle.dz_step.proofs.Falls.{leader_degree}
+use Rattle.dz_diff.proofs.LeaderBounds.{leader_degree}
 use Rattle.dz_step.proofs.NoSteps.{no_step_at}
 use Rattle.dz_pair.specs.Pair.{critical_pairs}
 use Rattle.dz_tree.specs.Chain.{Evidence, passes, has_leaders, is_autoreduced, separant_fits, has_permitted, chain_rule}
@@ -67,7 +67,7 @@ module _ (r : RankingValue) (few : r.signature.independents ≤ 4) (s : State) (
       let d = leader_is_one r q i.0 i.1 in
       let t = quotient_by_itself i.0 d in
       let of_q : IsOver r q = (taken (IsOver r) j q s.equations a over).0 in
-      no_step_at r s Free q e i.0 d (leader_degree r few i.0 q of_q.canonical i.1) j q i.0 t.0 a i.1 t.1
+      no_step_at r s Free q e i.0 d (leader_degree r i.0 q of_q.canonical i.1) j q i.0 t.0 a i.1 t.1
       (and_is _ _ (ap (λ b. nat_le (cond b 1 (degree (ranking_cmp r) i.0 q)) (degree (ranking_cmp r) i.0 q)) t.2 ∙ le-leb (degree (ranking_cmp r) i.0 q) (degree (ranking_cmp r) i.0 q) (omega arith))
       (ap (λ b. permitted_if (symbols_under r) s.inequations (multiplier_answer (symbols_under r) (cond b Separant Initial) i.0 q)) t.2 ∙ i.2))
 

@@ -48,7 +48,7 @@ use Rattle.dz_step.proofs.TakenSteps.{leader_is_derivative, taken_step, good_ste
 use Rattle.dz_step.proofs.NoSteps.{none_is_step}
 use Rattle.dz_step.proofs.NextSteps.{Limited, next_step_is_step}
 use Rattle.dz_step.proofs.Lowering.{each_coefficient, each_monomial}
-use Rattle.dz_diff.proofs.LeaderBounds.{leader_in, under_leader, leader_regular, degree_most}
+use Rattle.dz_diff.proofs.LeaderBounds.{leader_degree, under_leader, leader_regular, degree_most}
 use Rattle.dz_step.proofs.StepsLower.{Lowers, proper_lowers, lowers, zero_above}
 
 zero_of : (k : ℕ) → not (k == 0) ≡ false → k ≡ 0
@@ -105,32 +105,6 @@ module _ (R : RankingValue) (few : R.signature.independents ≤ 4) where
   unfolding Falls
   falls_apart f (v, a) = omega (arith, a.0)
 
-  -- ---- the leader occurs
-  no_leader : (l : Symbol) (m : Monomial Symbol) → IsMonomial g.cmp m → exponent g.cmp l m ≤ 0 → MonomialIn (λ s. is_derivative s ≡ true → s ≡ l → ⊥) m
-  no_leader l [] i h = tt
-  no_leader l (p ∷ m) i h = ((λ z e. here (g.cmp l p.0) p.1 (exponent g.cmp l m) (ap (g.cmp l) e ∙ tied_itself order.total l) i.0 h), no_leader l m i.2 (there (g.cmp l p.0) p.1 (exponent g.cmp l m) h))
-    where
-      here : (o : Ordering) (a x : ℕ) → o ≡ Equal → 0 < a → match_ordering o x (a + x) x ≤ 0 → ⊥
-      here Less a x e z h = cc
-      here Equal a x e z h = omega arith
-      here Greater a x e z h = cc
-
-      there : (o : Ordering) (a x : ℕ) → match_ordering o x (a + x) x ≤ 0 → x ≤ 0
-      there Less a x h = h
-      there Equal a x h = omega arith
-      there Greater a x h = h
-
-  never_leader : (l : Symbol) (q : Polynomial Symbol) → AreMonomials g.cmp q → AtMost g.cmp l 0 q → PolynomialIn (λ s. is_derivative s ≡ true → s ≡ l → ⊥) q
-  never_leader l [] i h = tt
-  never_leader l (t ∷ q) i h = (no_leader l t.0 i.0 h.0, never_leader l q i.1 h.1)
-
-  pub leader_degree : (l : Symbol) (q : Polynomial Symbol) → IsPolynomial g.cmp q → leader g q ≡ Some l → 1 ≤ degree g.cmp l q
-  leader_degree l q i e = by_degree (degree g.cmp l q) (degree_most g.cmp l q)
-    where
-      by_degree : (d : ℕ) → AtMost g.cmp l d q → 1 ≤ d
-      by_degree zero a = absurd (leader_in R (λ s. s ≡ l → ⊥) q l e (never_leader l q (are_monomials order q i) a) refl)
-      by_degree (suc d) a = omega arith
-
   -- a step with the operator of no derivation
   algebraic_lowers : (f q m r : Polynomial Symbol) (u : ℕ) (s : Operator) → IsPolynomial g.cmp f → IsPolynomial g.cmp q → PolynomialIn (IsRegular 4) q → leader g q ≡ Some (Derivative u s)
       → collect (monomial_cmp g.cmp) (coefficient_of g.cmp (Derivative u s) (degree g.cmp (Derivative u s) q) q) ≡ m → degree g.cmp (Derivative u s) q ≤ degree g.cmp (Derivative u s) f
@@ -142,7 +116,7 @@ module _ (R : RankingValue) (few : R.signature.independents ≤ 4) where
       let w-m : EachMonomial (IsWithout order (Derivative u s)) m =
       subst (EachMonomial (IsWithout order (Derivative u s))) m-is (each_collect g.cmp (IsWithout order (Derivative u s)) terms
       (each_coefficient g order (IsMonomial g.cmp) (IsWithout order (Derivative u s)) (Derivative u s) (degree g.cmp (Derivative u s) q) (λ n h. (without_is order (Derivative u s) n h, exponent_without order (Derivative u s) n)) q (each_monomial g order q (are_monomials order q i-q)))) in
-      lowers R (Derivative u s) f q m r (degree g.cmp (Derivative u s) q) i-f i-q w-m (degree_most g.cmp (Derivative u s) q) (leader_degree (Derivative u s) q i-q is) le m-is
+      lowers R (Derivative u s) f q m r (degree g.cmp (Derivative u s) q) i-f i-q w-m (degree_most g.cmp (Derivative u s) q) (leader_degree R (Derivative u s) q i-q is) le m-is
       (λ w h. (
         zero_above R 4 (Derivative u s) w q h under,
         subst (AtMost g.cmp w 0) m-is (each_collect g.cmp (λ n. exponent g.cmp w n ≤ 0) terms

@@ -7,3 +7,4 @@ pub mod NextSteps
 pub mod NoSteps
 pub mod Courses
 pub mod StepParts
+pub mod StepAnswers

@@ -2,3 +2,4 @@ pub mod Step
 pub mod Run
 pub mod FullRun
 pub mod Laws
+pub mod StepStops

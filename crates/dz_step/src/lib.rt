@@ -8,10 +8,12 @@ ghost use Rattle.dz_rank.specs.Symbols.{identity};
 
 pub mod laws;
 mod reducing;
+pub mod stepping;
 mod steps;
 
 pub use dz_diff::State;
 use dz_rank::Operator;
+pub use stepping::StepStop;
 pub use steps::StepList;
 
 /// The multiplier of a step or a split: the initial or the separant of an equation.

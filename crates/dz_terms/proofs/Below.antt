@@ -66,7 +66,7 @@ module _ {S : Type 0} {cmp : S → S → Ordering} (order : IsOrder cmp) where
   either false b e = (refl, e)
 
   -- what holds of no symbol of a monomial fails at each that occurs
-  occurs : (test : S → Bool) (n : Monomial S) (s : S) → list_any (λ p. test p.0) n ≡ false → 0 < exponent cmp s n → test s ≡ false
+  pub occurs : (test : S → Bool) (n : Monomial S) (s : S) → list_any (λ p. test p.0) n ≡ false → 0 < exponent cmp s n → test s ≡ false
   occurs test [] s e l = absurd (omega arith)
   occurs test (q ∷ n) s e l = let b = either (test q.0) (list_any (λ p. test p.0) n) e in by_order (cmp s q.0) refl b.0 (occurs test n s b.1)
     where

@@ -1,12 +1,17 @@
 -- What the terms and the table of an entry tell.
-use Rattle.std.proofs.Common.{◌≡◌, ◌<◌, ◌∙◌, ℕ, zero, suc, [], ◌∷◌, length, get_or, ℤ, sym, ap, subst, arith}
+use Rattle.std.proofs.Common.{◌≡◌, ◌<◌, true, false, nat_lt, refl, ◌∙◌, ℕ, zero, suc, [], ◌∷◌, length, get_or, ℤ, sym, ap, subst, arith}
+use Rattle.std.proofs.lemmas.Bool.Decides.{nat_tests}
 use Rattle.dz_algebra.specs.Monomial.{Monomial, IsMonomial, exponent}
 use Rattle.dz_algebra.specs.Parts.{degree}
 use Rattle.dz_algebra.specs.Polynomial.{Polynomial, IsPolynomial}
 use Rattle.dz_algebra.proofs.Canonical.{are_monomials}
 use Rattle.dz_rank.specs.declared.symbols.Symbol.{Symbol}
 use Rattle.dz_rank.specs.Rankings.{RankingValue, ranking_cmp}
+use Rattle.dz_rank.specs.Symbols.{total_order}
+use Rattle.dz_terms.specs.Degrees.{degrees}
 use Rattle.dz_terms.specs.Entries.{IsEntry}
+use Rattle.dz_terms.proofs.Below.{occurs}
+use Rattle.dz_terms.proofs.Summing.{low_entry}
 use Rattle.dz_terms.proofs.SupportLaws.{degrees_monomial, exponent_of_degrees}
 use Rattle.dz_terms.proofs.SymbolLaws.{ranking_order}
 
@@ -24,3 +29,14 @@ term_is_monomial r p table k d h l = at p k h.keepable.canonical l
     at [] k i l = absurd (omega arith)
     at (t ∷ p) zero i l = i.1
     at (t ∷ p) (suc k) i l = at p k i.3 (omega arith)
+
+-- a derivative of too high an order does not occur
+pub too_high : (r : RankingValue) (p : Polynomial Symbol) (table : Monomial Symbol) (s : Symbol) → IsEntry r p table → 60 < total_order s → degree (ranking_cmp r) s p ≡ 0
+too_high r p table s h l = by_exponent (exponent (ranking_cmp r) s (degrees (ranking_cmp r) p)) refl
+  where
+    by_exponent : (e : ℕ) → exponent (ranking_cmp r) s (degrees (ranking_cmp r) p) ≡ e → degree (ranking_cmp r) s p ≡ 0
+    by_exponent zero f = sym (exponent_of_degrees (ranking_order r) s p (are_monomials (ranking_order r) p h.keepable.canonical)) ∙ f
+    by_exponent (suc e) f =
+        let high : nat_lt 60 (total_order s) ≡ true = grind (arith, nat_tests) in
+        let low : nat_lt 60 (total_order s) ≡ false = occurs (ranking_order r) (λ s. nat_lt 60 (total_order s)) (degrees (ranking_cmp r) p) s (low_entry r p h.keepable).orders (omega (arith, f)) in
+        absurd (cc)
