@@ -7,6 +7,8 @@ mod differentiating;
 mod operators;
 mod rates;
 mod rows;
+#[cfg(test)]
+mod tests;
 
 pub use derivations::{derivative, partial_derivative};
 pub use differentiating::{apply, differentiate};
