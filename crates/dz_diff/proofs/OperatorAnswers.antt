@@ -16,14 +16,17 @@ refusal_stays (Ok a) f stop (inr e) = cc
 refusal_stays (Err wide) f stop (inr e) = inr e
 refusal_stays (Err (large l)) f stop (inr e) = inr e
 
+-- what follows in turn may be grouped
 bind_associates : {A B C E : Type 0} (x : Result A E) (f : A → Result B E) (g : B → Result C E) → ((x >>= f) >>= g) ≡ (x >>= (λ a. f a >>= g))
 bind_associates (Ok a) f g = refl
 bind_associates (Err e) f g = refl
 
+-- what follows in the same way
 bind_same : {A B E : Type 0} (x : Result A E) (f g : A → Result B E) → ((a : A) → f a ≡ g a) → (x >>= f) ≡ (x >>= g)
 bind_same (Ok a) f g h = h a
 bind_same (Err e) f g h = refl
 
+-- nothing follows
 bind_itself : {A E : Type 0} (x : Result A E) → (x >>= (λ a. Ok a)) ≡ x
 bind_itself (Ok a) = refl
 bind_itself (Err e) = refl
@@ -68,6 +71,7 @@ module _ (g : Symbols Symbol) where
       (λ b. derivations-append (suc i) ks ls b ∙ ap (λ n. derivations_answer g (suc i) ks b >>= derivations_answer g n ls) (let e : suc i + length ks ≡ i + length (k ∷ ks) = omega arith in e))
       ∙ sym (bind_associates (iterated_answer g i k a) (derivations_answer g (suc i) ks) (derivations_answer g (i + length (k ∷ ks)) ls))
 
+  -- one more exponent
   take_here : (i : ℕ) (ks : List ℕ) (d : ℕ) → i < length ks → take (i + 1) ks ≡ take i ks ++ get_or ks i d ∷ []
   take_here i ks d h = rw add-one (at i ks h)
     where
@@ -76,6 +80,7 @@ module _ (g : Symbols Symbol) where
       at zero (k ∷ ks) h = refl
       at (suc i) (k ∷ ks) h = ap (λ l. k ∷ l) (at i ks (omega arith))
 
+  -- the length of a front
   length_taken : (i : ℕ) (ks : List ℕ) → i ≤ length ks → length (take i ks) ≡ i
   length_taken zero ks h = refl
   length_taken (suc i) [] h = absurd (omega arith)

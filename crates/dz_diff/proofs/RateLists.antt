@@ -35,22 +35,27 @@ above_front : {S X : Type 0} (cmp : S → S → Ordering) (s : S) (a b : List (S
 above_front cmp s [] b h = tt
 above_front cmp s (p ∷ a) b h = (h.0, above_front cmp s a b h.1)
 
+-- what is above a list is above its second part
 above_back : {S X : Type 0} (cmp : S → S → Ordering) (s : S) (a b : List (S × X)) → IsAbove cmp s (a ++ b) → IsAbove cmp s b
 above_back cmp s [] b h = h
 above_back cmp s (p ∷ a) b h = above_back cmp s a b h.1
 
+-- the first part of a falling list falls
 front_falls : {S X : Type 0} (cmp : S → S → Ordering) (a b : List (S × X)) → IsFalling cmp (a ++ b) → IsFalling cmp a
 front_falls cmp [] b h = tt
 front_falls cmp (p ∷ a) b h = (above_front cmp p.0 a b h.0, front_falls cmp a b h.1)
 
+-- and so does the second
 back_falls : {S X : Type 0} (cmp : S → S → Ordering) (a b : List (S × X)) → IsFalling cmp (a ++ b) → IsFalling cmp b
 back_falls cmp [] b h = h
 back_falls cmp (p ∷ a) b h = back_falls cmp a b h.1
 
+-- what holds of a list holds of its first part
 all_front : {X : Type 0} (P : X → Type 0) (a b : List X) → AllOf P (a ++ b) → AllOf P a
 all_front P [] b h = tt
 all_front P (x ∷ a) b h = (h.0, all_front P a b h.1)
 
+-- and of the second
 all_back : {X : Type 0} (P : X → Type 0) (a b : List X) → AllOf P (a ++ b) → AllOf P b
 all_back P [] b h = h
 all_back P (x ∷ a) b h = all_back P a b h.1
@@ -90,9 +95,11 @@ module _ {cmp : Symbol → Symbol → Ordering} (order : IsOrder cmp) where
 
   -- ---- the rows of two parts
   module _ (qs a b : List (Symbol × SymbolRate)) (e : qs ≡ a ++ b) (falls : IsFalling cmp qs) (p : Polynomial Symbol) (canonical : IsPolynomial cmp p) where
+    -- the rows of both parts gather to those of the whole list
     both : gathered cmp (rows cmp a p ++ rows cmp b p) ≡ gathered cmp (rows cmp qs p)
     both = gathered_splits order (rate_in cmp a) (rate_in cmp b) (rate_in cmp (a ++ b)) (split_rates a b (subst (IsFalling cmp) e falls)) p ∙ ap (λ l. gathered cmp (rows cmp l p)) (sym e)
 
+    -- rows stand at monomials
     stand : (l : List (Symbol × SymbolRate)) → AreMonomials cmp (rows cmp l p)
     stand l = monomials_derivative order (rate_in cmp l) p (are_monomials order p canonical)
 
@@ -108,6 +115,7 @@ module _ {cmp : Symbol → Symbol → Ordering} (order : IsOrder cmp) where
         ∙ ap has_high_exponent (degrees_gathered order (rows cmp a p ++ rows cmp b p) (monomials-append order (rows cmp a p) (rows cmp b p) (stand a) (stand b)))
         ∙ high-append order (rows cmp a p) (rows cmp b p)
 
+    -- a test that one of two passes
     part_high : (c d : Bool) → (c ≡ true) ⊎ (d ≡ true) → (c || d) ≡ true
     part_high true d h = refl
     part_high false true h = refl
@@ -145,6 +153,7 @@ module _ {cmp : Symbol → Symbol → Ordering} (order : IsOrder cmp) where
   pub row_gathered : (s : Symbol) (x : SymbolRate) (p : Polynomial Symbol) → IsPolynomial cmp p → caps (amounts (row cmp s x p)) ≡ caps (gathered cmp (row cmp s x p))
   row_gathered s x p h = ap caps (merge_puts (monomial_order order) add_amounts [] (amounts (row cmp s x p)) tt (row_falls order s (meant x) p h))
 
+  -- a list of one rate
   one_rate : (qs : List (Symbol × SymbolRate)) (d : Symbol × SymbolRate) → length qs ≡ 1 → qs ≡ get_or qs 0 d ∷ []
   one_rate [] d e = absurd (omega arith)
   one_rate (q ∷ []) d e = refl
@@ -165,21 +174,26 @@ in_rates cmp P (q ∷ qs) h s = elim (cmp s q.0) as (λ o. RateIn P (match_order
 
 -- ---- orders
 module _ {S : Type 0} {cmp : S → S → Ordering} (ordered : IsOrder cmp) (total : S → ℕ) where
+  -- some symbol of a monomial has a high order
   abbrev high : Monomial S → Bool
   high m = list_any (λ q. nat_lt 60 (total q.0)) m
 
+  -- some symbol of contributions has a high order
   abbrev some_high : Contributions S → Bool
   some_high [] = false
   some_high (t ∷ ts) = high t.0 || some_high ts
 
+  -- a disjunction that fails has no part that holds
   no_part : (a b : Bool) → (a || b) ≡ false → (a ≡ false) × (b ≡ false)
   no_part true b e = cc
   no_part false b e = (refl, e)
 
+  -- disjunctions associate
   grouped : (a b c : Bool) → (a || (b || c)) ≡ ((a || b) || c)
   grouped true b c = refl
   grouped false b c = refl
 
+  -- a disjunction with what is false
   or_false : (a : Bool) → (a || false) ≡ a
   or_false true = refl
   or_false false = refl
@@ -189,6 +203,7 @@ module _ {S : Type 0} {cmp : S → S → Ordering} (ordered : IsOrder cmp) (tota
   degrees_high [] = refl
   degrees_high (t ∷ ts) = any_onto ordered max (λ s. nat_lt 60 (total s)) t.0 (degrees cmp ts) ∙ ap (λ b. high t.0 || b) (degrees_high ts)
 
+  -- a monomial times a power has its symbols and one more
   high_put : (s : S) (e : ℕ) (m : Monomial S) → high (with_power cmp s e m) ≡ (nat_lt 60 (total s) || high m)
   high_put s e [] = refl
   high_put s e (p ∷ m) =
@@ -207,10 +222,12 @@ module _ {S : Type 0} {cmp : S → S → Ordering} (ordered : IsOrder cmp) (tota
       twice true c = refl
       twice false c = refl
 
+  -- contributions times a power of low order are as high as they are
   high_each : (s : S) (e : ℕ) (ts : Contributions S) → nat_lt 60 (total s) ≡ false → some_high (each_with_power cmp s e ts) ≡ some_high ts
   high_each s e [] h = refl
   high_each s e (t ∷ ts) h = ap₂ (λ a b. a || b) (high_put s e t.0 ∙ ap (λ b. b || high t.0) h) (high_each s e ts h)
 
+  -- some symbol of two lists is one of either
   some_high-append : (ts us : Contributions S) → some_high (ts ++ us) ≡ (some_high ts || some_high us)
   some_high-append [] us = refl
   some_high-append (t ∷ ts) us = ap (λ b. high t.0 || b) (some_high-append ts us) ∙ grouped (high t.0) (some_high ts) (some_high us)
@@ -221,6 +238,7 @@ module _ {S : Type 0} {cmp : S → S → Ordering} (ordered : IsOrder cmp) (tota
   high_times unit m c h = ap (λ b. b || false) h
   high_times (symbol t) m c h = or_false (high (with_power cmp t 1 m)) ∙ high_put t 1 m ∙ ap (λ b. nat_lt 60 (total t) || b) h ∙ or_false (nat_lt 60 (total t))
 
+  -- a low monomial with a symbol once less is low
   low_less : (s : S) (e : ℕ) (m : Monomial S) → nat_lt 60 (total s) ≡ false → high m ≡ false → high (once_less s e m) ≡ false
   low_less s zero m h g = g
   low_less s (suc zero) m h g = g
@@ -231,10 +249,12 @@ module _ {S : Type 0} {cmp : S → S → Ordering} (ordered : IsOrder cmp) (tota
     abbrev made : Monomial S → Bool
     made m = list_any (λ q. is_high_rate total (rate q.0)) m
 
+    -- some symbol of a polynomial has a high rate
     abbrev some_made : Polynomial S → Bool
     some_made [] = false
     some_made (t ∷ p) = made t.0 || some_made p
 
+    -- a low term is as high as what the rates of its symbols make
     high_term : (m : Monomial S) (c : ℤ) → high m ≡ false → some_high (term_derivative cmp rate m c) ≡ made m
     high_term [] c h = refl
     high_term (p ∷ m) c h =
@@ -242,6 +262,7 @@ module _ {S : Type 0} {cmp : S → S → Ordering} (ordered : IsOrder cmp) (tota
         some_high-append (times_rate cmp (rate p.0) (once_less p.0 p.1 m) (c *ℤ pos p.1)) (each_with_power cmp p.0 p.1 (term_derivative cmp rate m c))
         ∙ ap₂ (λ a b. a || b) (high_times (rate p.0) (once_less p.0 p.1 m) (c *ℤ pos p.1) (low_less p.0 p.1 m low.0 low.1)) (high_each p.0 p.1 (term_derivative cmp rate m c) low.0 ∙ high_term m c low.1)
 
+    -- and so are all terms
     high_terms : (p : Polynomial S) → some_high p ≡ false → some_high (derivative_contributions cmp rate p) ≡ some_made p
     high_terms [] h = refl
     high_terms (t ∷ p) h =
@@ -249,6 +270,7 @@ module _ {S : Type 0} {cmp : S → S → Ordering} (ordered : IsOrder cmp) (tota
         some_high-append (term_derivative cmp rate t.0 t.1) (derivative_contributions cmp rate p)
         ∙ ap₂ (λ a b. a || b) (high_term t.0 t.1 low.0) (high_terms p low.1)
 
+    -- the symbols of the degrees are those of the terms
     made_degrees : (p : Polynomial S) → made (degrees cmp p) ≡ some_made p
     made_degrees [] = refl
     made_degrees (t ∷ p) = any_onto ordered max (λ s. is_high_rate total (rate s)) t.0 (degrees cmp p) ∙ ap (λ b. made t.0 || b) (made_degrees p)

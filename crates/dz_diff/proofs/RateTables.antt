@@ -78,10 +78,12 @@ with_rate-append s constant a b = refl
 with_rate-append s unit a b = refl
 with_rate-append s (symbol t) a b = refl
 
+-- the rates of two monomials, one after the other
 rates_of-append : (rate : Symbol → Rate Symbol) (m n : Monomial Symbol) → rates_of rate (m ++ n) ≡ rates_of rate m ++ rates_of rate n
 rates_of-append rate [] n = refl
 rates_of-append rate (p ∷ m) n = ap (with_rate p.0 (rate p.0)) (rates_of-append rate m n) ∙ sym (with_rate-append p.0 (rate p.0) (rates_of rate m) (rates_of rate n))
 
+-- one of two lists passes a test if one of either does
 any-append : {X : Type 0} (test : X → Bool) (a b : List X) → list_any test (a ++ b) ≡ (list_any test a || list_any test b)
 any-append test [] b = refl
 any-append test (x ∷ a) b = ap (λ c. test x || c) (any-append test a b) ∙ grouped (test x) (list_any test a) (list_any test b)
@@ -90,6 +92,7 @@ any-append test (x ∷ a) b = ap (λ c. test x || c) (any-append test a b) ∙ g
     grouped true b c = refl
     grouped false b c = refl
 
+-- one more element
 take_here : {X : Type 0} (i : ℕ) (xs : List X) (d : X) → i < length xs → take (i + 1) xs ≡ take i xs ++ get_or xs i d ∷ []
 take_here {X} i xs d h = rw add-one (at i xs h)
   where
@@ -133,15 +136,18 @@ Fits P s constant = ⊤
 Fits P s unit = P (s, One)
 Fits P s (symbol t) = P (s, Next t)
 
+-- what holds of a rate and of others holds of all
 all_with : (P : Symbol × SymbolRate → Type 0) (s : Symbol) (x : Rate Symbol) (qs : List (Symbol × SymbolRate)) → Fits P s x → AllOf P qs → AllOf P (with_rate s x qs)
 all_with P s constant qs h g = g
 all_with P s unit qs h g = (h, g)
 all_with P s (symbol t) qs h g = (h, g)
 
+-- what holds of the rate of each symbol holds of the list
 all_rates : (P : Symbol × SymbolRate → Type 0) (rate : Symbol → Rate Symbol) (m : Monomial Symbol) → MonomialIn (λ s. Fits P s (rate s)) m → AllOf P (rates_of rate m)
 all_rates P rate [] h = tt
 all_rates P rate (p ∷ m) h = all_with P p.0 (rate p.0) (rates_of rate m) h.0 (all_rates P rate m h.1)
 
+-- what holds of all symbols holds of those of a monomial
 in_all : {S : Type 0} (P : S → Type 0) → ((s : S) → P s) → (m : Monomial S) → MonomialIn P m
 in_all P h [] = tt
 in_all P h (p ∷ m) = (h p.0, in_all P h m)
@@ -151,35 +157,42 @@ pub in_weaker : {S : Type 0} (P Q : S → Type 0) → ((s : S) → P s → Q s) 
 in_weaker P Q f [] h = tt
 in_weaker P Q f (p ∷ m) h = (f p.0 h.0, in_weaker P Q f m h.1)
 
+-- what is above a symbol and a list is above the list with its rate
 above_with : (cmp : Symbol → Symbol → Ordering) (k s : Symbol) (x : Rate Symbol) (qs : List (Symbol × SymbolRate)) → cmp k s ≡ Greater → IsAbove cmp k qs → IsAbove cmp k (with_rate s x qs)
 above_with cmp k s constant qs h a = a
 above_with cmp k s unit qs h a = (h, a)
 above_with cmp k s (symbol t) qs h a = (h, a)
 
+-- what is above a monomial is above its rates
 above_rates : (cmp : Symbol → Symbol → Ordering) (rate : Symbol → Rate Symbol) (k : Symbol) (m : Monomial Symbol) → IsAbove cmp k m → IsAbove cmp k (rates_of rate m)
 above_rates cmp rate k [] a = tt
 above_rates cmp rate k (p ∷ m) a = above_with cmp k p.0 (rate p.0) (rates_of rate m) a.0 (above_rates cmp rate k m a.1)
 
+-- a rate before falling rates of lesser symbols
 falling_with : (cmp : Symbol → Symbol → Ordering) (s : Symbol) (x : Rate Symbol) (qs : List (Symbol × SymbolRate)) → IsAbove cmp s qs → IsFalling cmp qs → IsFalling cmp (with_rate s x qs)
 falling_with cmp s constant qs a f = f
 falling_with cmp s unit qs a f = (a, f)
 falling_with cmp s (symbol t) qs a f = (a, f)
 
+-- the rates of a monomial fall
 falling_rates : (cmp : Symbol → Symbol → Ordering) (rate : Symbol → Rate Symbol) (m : Monomial Symbol) → IsMonomial cmp m → IsFalling cmp (rates_of rate m)
 falling_rates cmp rate [] h = tt
 falling_rates cmp rate (p ∷ m) h = falling_with cmp p.0 (rate p.0) (rates_of rate m) (above_rates cmp rate p.0 m h.1) (falling_rates cmp rate m h.2)
 
 module _ {cmp : Symbol → Symbol → Ordering} (order : IsOrder cmp) (rate : Symbol → Rate Symbol) where
+  -- the list gives its first symbol the first rate
   rate_first : (s : Symbol) (x : Rate Symbol) (qs : List (Symbol × SymbolRate)) → IsAbove cmp s qs → rate_in cmp (with_rate s x qs) s ≡ x
   rate_first s constant qs a = rate_above order s qs a
   rate_first s unit qs a = ap (λ o. match_ordering o (rate_in cmp qs s) unit (rate_in cmp qs s)) (tied_itself order.total s)
   rate_first s (symbol t) qs a = ap (λ o. match_ordering o (rate_in cmp qs s) (symbol t) (rate_in cmp qs s)) (tied_itself order.total s)
 
+  -- and a lesser one what the rest of it gives
   rate_past : (u s : Symbol) (x : Rate Symbol) (qs : List (Symbol × SymbolRate)) → cmp s u ≡ Greater → rate_in cmp (with_rate s x qs) u ≡ rate_in cmp qs u
   rate_past u s constant qs h = refl
   rate_past u s unit qs h = ap (λ o. match_ordering o (rate_in cmp qs u) unit (rate_in cmp qs u)) (less_reversed order.total s u h)
   rate_past u s (symbol t) qs h = ap (λ o. match_ordering o (rate_in cmp qs u) (symbol t) (rate_in cmp qs u)) (less_reversed order.total s u h)
 
+  -- so it does for all symbols of a lesser monomial
   all_past : (s : Symbol) (x : Rate Symbol) (qs : List (Symbol × SymbolRate)) (m : Monomial Symbol) → IsAbove cmp s m → MonomialIn (λ u. rate_in cmp qs u ≡ rate u) m → MonomialIn (λ u. rate_in cmp (with_rate s x qs) u ≡ rate u) m
   all_past s x qs [] a h = tt
   all_past s x qs (p ∷ m) a h = (rate_past p.0 s x qs a.0 ∙ h.0, all_past s x qs m a.1 h.1)
@@ -191,11 +204,13 @@ module _ {cmp : Symbol → Symbol → Ordering} (order : IsOrder cmp) (rate : Sy
 
 -- ---- the symbols of a polynomial are those of its degrees
 module _ {S : Type 0} {cmp : S → S → Ordering} (order : IsOrder cmp) (P : S → Type 0) where
+  -- a degree more brings in its symbol alone
   put_in : (s : S) (e : ℕ) (m : Monomial S) → P s → MonomialIn P m → MonomialIn P (put cmp max s e m)
   put_in s e [] h g = (h, tt)
   put_in s e (p ∷ m) h g =
       elim (cmp s p.0) as (λ o. MonomialIn P (match_ordering o (p ∷ put cmp max s e m) ((p.0, max e p.1) ∷ m) ((s, e) ∷ p ∷ m))) [ Less ↦ (g.0, put_in s e m h g.1) | Equal ↦ g | Greater ↦ (h, g) ]
 
+  -- a common multiple has the symbols of both
   onto_in : (m n : Monomial S) → MonomialIn P m → MonomialIn P n → MonomialIn P (onto cmp max m n)
   onto_in [] n h g = g
   onto_in (p ∷ m) n h g = put_in p.0 p.1 (onto cmp max m n) h.0 (onto_in m n h.1 g)
@@ -205,6 +220,7 @@ module _ {S : Type 0} {cmp : S → S → Ordering} (order : IsOrder cmp) (P : S 
   degrees_in [] h = tt
   degrees_in (t ∷ p) h = onto_in t.0 (degrees cmp p) h.0 (degrees_in p h.1)
 
+  -- and it has the symbol of the degree
   out_of_put : (s : S) (e : ℕ) (m : Monomial S) → MonomialIn P (put cmp max s e m) → P s × MonomialIn P m
   out_of_put s e [] h = h
   out_of_put s e (p ∷ m) h = by_order (cmp s p.0) refl h (out_of_put s e m)
@@ -214,6 +230,7 @@ module _ {S : Type 0} {cmp : S → S → Ordering} (order : IsOrder cmp) (P : S 
       by_order Equal f h rest = (subst P (sym (order.same s p.0 f)) h.0, h)
       by_order Greater f h rest = h
 
+  -- it has no others
   out_of_onto : (m n : Monomial S) → MonomialIn P (onto cmp max m n) → MonomialIn P m × MonomialIn P n
   out_of_onto [] n h = (tt, h)
   out_of_onto (p ∷ m) n h = let k = out_of_put p.0 p.1 (onto cmp max m n) h in let l = out_of_onto m n k.1 in ((k.0, l.0), l.1)
@@ -225,6 +242,7 @@ module _ {S : Type 0} {cmp : S → S → Ordering} (order : IsOrder cmp) (P : S 
 
 -- derivations that make the same of each symbol contribute the same
 module _ {S : Type 0} (cmp : S → S → Ordering) (f g : S → Rate S) where
+  -- the contributions of a term
   same_term : (m : Monomial S) (c : ℤ) → MonomialIn (λ s. f s ≡ g s) m → term_derivative cmp f m c ≡ term_derivative cmp g m c
   same_term [] c h = refl
   same_term (p ∷ m) c h = ap₂ (λ x ts. times_rate cmp x (once_less p.0 p.1 m) (c *ℤ pos p.1) ++ each_with_power cmp p.0 p.1 ts) h.0 (same_term m c h.1)
@@ -236,9 +254,7 @@ module _ {S : Type 0} (cmp : S → S → Ordering) (f g : S → Rate S) where
 
 -- ---- what rows answer
 module _ (r : RankingValue) (p : Polynomial Symbol) (table : Monomial Symbol) (entry : IsEntry r p table) where
-  abbrev cmp : Symbol → Symbol → Ordering
-  cmp = ranking_cmp r
-
+  -- the terms have low orders
   low_orders : has_high_order total_order (degrees (ranking_cmp r) p) ≡ false
   low_orders = (low_entry r p entry.keepable).orders
 
@@ -246,6 +262,7 @@ module _ (r : RankingValue) (p : Polynomial Symbol) (table : Monomial Symbol) (e
   pub low_terms : has_high_exponent (degrees (ranking_cmp r) p) ≡ false
   low_terms = (low_entry r p entry.keepable).exponents
 
+  -- a derivation's contributions stand at monomials
   standing : (rate : Symbol → Rate Symbol) → AreMonomials (ranking_cmp r) (derivative_contributions (ranking_cmp r) rate p)
   standing rate = monomials_derivative (ranking_order r) rate p (are_monomials (ranking_order r) p entry.keepable.canonical)
 
@@ -264,21 +281,25 @@ module _ (r : RankingValue) (p : Polynomial Symbol) (table : Monomial Symbol) (e
       ∙ ap Some (sym e.0))
 
   module _ (qs : List (Symbol × SymbolRate)) (are : AreRates r qs) where
+    -- a rate whose symbol has a low order is low
     low_rate : (x : Rate Symbol) → RateIn (λ t. total_order t ≤ 60) x → is_high_rate total_order x ≡ false
     low_rate constant h = refl
     low_rate unit h = refl
     low_rate (symbol t) h = grind (arith, nat_tests)
 
+    -- rates that stay make low orders
     all_low : (l : List (Symbol × SymbolRate)) → AllOf (λ q. Stays r q.1) l → AllOf (λ q. RateIn (λ t. total_order t ≤ 60) (meant q.1)) l
     all_low [] h = tt
     all_low ((s, One) ∷ l) h = (tt, all_low l h.1)
     all_low ((s, Next t) ∷ l) h = (h.0.1, all_low l h.1)
 
+    -- and symbols of the signature
     all_belong : (l : List (Symbol × SymbolRate)) → AllOf (λ q. Stays r q.1) l → AllOf (λ q. RateIn (BelongsTo r.signature) (meant q.1)) l
     all_belong [] h = tt
     all_belong ((s, One) ∷ l) h = (tt, all_belong l h.1)
     all_belong ((s, Next t) ∷ l) h = (h.0.0, all_belong l h.1)
 
+    -- none of them is high
     none_high : (m : Monomial Symbol) → list_any (λ q. is_high_rate total_order (rate_in (ranking_cmp r) qs q.0)) m ≡ false
     none_high [] = refl
     none_high (q ∷ m) = ap₂ (λ a b. a || b) (low_rate (rate_in (ranking_cmp r) qs q.0) (in_rates (ranking_cmp r) (λ t. total_order t ≤ 60) qs (all_low qs are.stay) q.0)) (none_high m)
@@ -320,11 +341,13 @@ module _ (r : RankingValue) (p : Polynomial Symbol) (table : Monomial Symbol) (e
       four (Derivative u t) h = h.1.size
 
   module _ (i : ℕ) (within : i < r.signature.independents) (below : i < 4) where
+    -- what a derivation makes of a symbol is above it
     rises : (s : Symbol) → Fits (λ q. Rises (ranking_cmp r) q.0 q.1) s (symbol_rate i s)
     unfolding symbol_rate
     rises (Independent j) = elim (i == j) as (λ b. Fits (λ q. Rises (ranking_cmp r) q.0 q.1) (Independent j) (cond b unit constant)) [ true ↦ tt | false ↦ tt ]
     rises (Derivative u t) = greater_reversed (ranking_order r).total (Derivative u t) (raised_symbol i (Derivative u t)) (grows_by_one r i (Derivative u t) refl)
 
+    -- and stays, where its order is low
     stays : (s : Symbol) → BelongsTo r.signature s → is_high_rate total_order (symbol_rate i s) ≡ false → Fits (λ q. Stays r q.1) s (symbol_rate i s)
     unfolding symbol_rate
     stays (Independent j) h e = elim (i == j) as (λ b. Fits (λ q. Stays r q.1) (Independent j) (cond b unit constant)) [ true ↦ tt | false ↦ tt ]
@@ -333,6 +356,7 @@ module _ (r : RankingValue) (p : Polynomial Symbol) (table : Monomial Symbol) (e
         not_high : (n : ℕ) → nat_lt 60 n ≡ false → n ≤ 60
         not_high n e = grind (arith, nat_tests)
 
+    -- so it does for all symbols of a monomial
     all_stay : (m : Monomial Symbol) → MonomialIn (BelongsTo r.signature) m → list_any (λ q. is_high_rate total_order (symbol_rate i q.0)) m ≡ false → MonomialIn (λ s. Fits (λ q. Stays r q.1) s (symbol_rate i s)) m
     all_stay [] h e = tt
     all_stay (q ∷ m) h e = let k = no_part (is_high_rate total_order (symbol_rate i q.0)) (list_any (λ q. is_high_rate total_order (symbol_rate i q.0)) m) e in (stays q.0 h.0 k.0, all_stay m h.1 k.1)

@@ -143,6 +143,7 @@ module _ (r : RankingValue) (s : Symbol) (x : SymbolRate) where
       last true = refl
       last false = refl
 
+  -- the front of a list that is as long as the list
   whole : {X : Type 0} (xs : List X) (n : ℕ) → n ≡ length xs → take n xs ≡ xs
   whole [] zero e = refl
   whole [] (suc n) e = refl
@@ -177,6 +178,7 @@ module _ (r : RankingValue) (s : Symbol) (x : SymbolRate) where
       ap (λ l. term_derivative (ranking_cmp r) (only (ranking_cmp r) s (meant x)) t.0 t.1 ++ l) (row-append p q)
       ∙ sym (append_assoc (term_derivative (ranking_cmp r) (only (ranking_cmp r) s (meant x)) t.0 t.1) (row (ranking_cmp r) s x p) (row (ranking_cmp r) s x q))
 
+  -- one more term
   take_here : (i : ℕ) (p : Polynomial Symbol) (t : Monomial Symbol × ℤ) → i < length p → t ≡ get_or p i t → take (i + 1) p ≡ take i p ++ t ∷ []
   take_here i p t h e = rw add-one (at i p h e)
     where

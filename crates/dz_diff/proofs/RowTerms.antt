@@ -59,6 +59,7 @@ module _ {S : Type 0} {cmp : S → S → Ordering} (order : IsOrder cmp) where
     above_back k [] (suc (suc e)) back a = (a.0, a.1)
     above_back k (q ∷ front) e back a = (a.0, above_back k front e back a.1)
 
+    -- what is above a monomial is above each symbol of it
     above_middle : (k : S) (front : Monomial S) (e : ℕ) (back : Monomial S) → IsAbove cmp k (front ++ (s, e) ∷ back) → cmp k s ≡ Greater
     above_middle k [] e back a = a.0
     above_middle k (q ∷ front) e back a = above_middle k front e back a.1
@@ -106,6 +107,7 @@ module _ {S : Type 0} {cmp : S → S → Ordering} (order : IsOrder cmp) where
     back_below (q ∷ front) e back h = back_below front e back h.2
 
     module _ (x : Rate S) where
+      -- what a term contributes to the row
       abbrev term : Monomial S → ℤ → Contributions S
       term m c = term_derivative cmp (only cmp s x) m c
 
@@ -169,6 +171,7 @@ module _ {S : Type 0} {cmp : S → S → Ordering} (order : IsOrder cmp) where
         pub again : with_power cmp s 1 left ≡ m
         pub value : term m c ≡ times_rate cmp x left coefficient
 
+      -- each term does one or the other
       once : (m : Monomial S) (c : ℤ) → IsMonomial cmp m → (term m c ≡ []) ⊎ Once m c
       once m c h = by_parts (parts s m)
         where
@@ -196,11 +199,13 @@ module _ {S : Type 0} {cmp : S → S → Ordering} (order : IsOrder cmp) where
       key_keeps unit m n h g = refl
       key_keeps (symbol t) m n h g = power_keeps_order order t 1 (omega arith) m n h g
 
+      -- what is above a contribution and the others is above all
       above_times : (k : Monomial S) (y : Rate S) (m : Monomial S) (c : ℤ) (ts : Contributions S) → monomial_cmp cmp k (key y m) ≡ Greater → IsAbove (monomial_cmp cmp) k (amounts ts) → IsAbove (monomial_cmp cmp) k (amounts (times_rate cmp y m c ++ ts))
       above_times k constant m c ts h a = a
       above_times k unit m c ts h a = (h, a)
       above_times k (symbol t) m c ts h a = (h, a)
 
+      -- a row is below what the rate makes of a greater monomial
       row_above : (k : Monomial S) (p : Polynomial S) → IsMonomial cmp k → IsPolynomial cmp p → IsAbove (monomial_cmp cmp) (with_power cmp s 1 k) p → IsAbove (monomial_cmp cmp) (key x k) (amounts (derivative_contributions cmp (only cmp s x) p))
       row_above k [] i h a = tt
       row_above k (t ∷ p) i h a = by_once (once t.0 t.1 h.1) (row_above k p i h.3 a.1)
@@ -212,6 +217,7 @@ module _ {S : Type 0} {cmp : S → S → Ordering} (order : IsOrder cmp) where
               (above_times (key x k) x o.left o.coefficient (derivative_contributions cmp (only cmp s x) p)
               (key_keeps x k o.left i o.is ∙ sym (power_keeps_order order s 1 (omega arith) k o.left i o.is) ∙ ap (monomial_cmp cmp (with_power cmp s 1 k)) o.again ∙ a.0) b)
 
+      -- a contribution above others that fall goes before them
       falling_times : (y : Rate S) (m : Monomial S) (c : ℤ) (ts : Contributions S) → IsAbove (monomial_cmp cmp) (key y m) (amounts ts) → IsFalling (monomial_cmp cmp) (amounts ts) → IsFalling (monomial_cmp cmp) (amounts (times_rate cmp y m c ++ ts))
       falling_times constant m c ts a f = f
       falling_times unit m c ts a f = (a, f)
