@@ -43,7 +43,7 @@ module _ (old new : BookValue) (kept : IsKept old new) where
     pub stands_on : StandsIn new s
     stands_on = record { equations_live = live_on s.equations there.equations_live; inequations_live = live_on s.inequations there.inequations_live }
 
--- a state without members and forks has all that is true of a state that is reached
+-- a state without members and forks has the facts of a state
 pub no_members : (book : BookValue) (es hs : List ℕ) → es ≡ [] → hs ≡ [] → IsStateOf (symbols_under book.ranking) (state_in book (record { equations = es; inequations = hs; splits = 0 }))
 unfolding IsDistinct
 no_members book [] [] e f = record { equations_normalised = tt; inequations_normalised = tt; equations_distinct = tt; inequations_distinct = tt; no_zero = refl; no_unit = refl; within_limits = refl }

@@ -12,3 +12,4 @@ pub mod KeptStates
 pub mod LeaderBounds
 pub mod Separants
 pub mod ProperDerivatives
+pub mod RootStates
