@@ -6,7 +6,9 @@ use Rattle.dz_algebra.specs.Polynomial.{Polynomial}
 use Rattle.dz_rank.specs.declared.symbols.Symbol.{Symbol}
 use Rattle.dz_poly.specs.Books.{BookValue, IsKept, Lives, polynomial}
 use Rattle.dz_poly.proofs.Books.{lives_on}
-use Rattle.dz_diff.specs.States.{LiveAll, StandsIn, StateValue, polynomials, state_in}
+use Rattle.std.specs.List.{IsDistinct}
+use Rattle.dz_terms.specs.Ranked.{symbols_under}
+use Rattle.dz_diff.specs.States.{IsStateOf, LiveAll, StandsIn, StateValue, polynomials, state_in}
 use Rattle.dz_diff.specs.Tests.{Polynomials}
 
 module _ (old new : BookValue) (kept : IsKept old new) where
@@ -40,3 +42,10 @@ module _ (old new : BookValue) (kept : IsKept old new) where
     -- and goes on standing in the book
     pub stands_on : StandsIn new s
     stands_on = record { equations_live = live_on s.equations there.equations_live; inequations_live = live_on s.inequations there.inequations_live }
+
+-- a state without members and forks has the facts of a state
+pub no_members : (book : BookValue) (es hs : List ℕ) → es ≡ [] → hs ≡ [] → IsStateOf (symbols_under book.ranking) (state_in book (record { equations = es; inequations = hs; splits = 0 }))
+unfolding IsDistinct
+no_members book [] [] e f = record { equations_normalised = tt; inequations_normalised = tt; equations_distinct = tt; inequations_distinct = tt; no_zero = refl; no_unit = refl; within_limits = refl }
+no_members book [] (h ∷ hs) e f = absurd cc
+no_members book (p ∷ es) hs e f = absurd cc

@@ -1,5 +1,5 @@
 -- The leader of a polynomial is read off the table of its degrees.
-use Rattle.std.proofs.Common.{◌≡◌, ◌==◌, ℕ, true, false, not, [], ◌∷◌, Option, Some, None, length, map, refl, sym, ap, ◌∙◌, arith, eqb-true}
+use Rattle.std.proofs.Common.{◌≡◌, ◌==◌, ℕ, Bool, true, false, not, [], ◌∷◌, Option, Some, None, length, map, refl, sym, ap, ◌∙◌, arith, eqb-true}
 use Rattle.std.specs.Prelude.{slice_index_or}
 use Rattle.std.specs.List.{list_any}
 use Rattle.std.specs.declared.cmp.Ordering.TheVariants.{Greater}
@@ -72,3 +72,11 @@ module _ (r : RankingValue) (p : Polynomial Symbol) (table : Monomial Symbol) (h
 -- a polynomial without a leader is ground
 pub unled_not_led : (r : RankingValue) (p : Polynomial Symbol) → is_ground (symbols_under r) p ≡ false → None ≡ leader (symbols_under r) p → ⊥
 unled_not_led r p led e = let ground : is_ground (symbols_under r) p ≡ true = no_leader_ground (symbols_under r) p (sym e) in cc
+
+-- and one with a leader is not
+pub led_not_ground : (r : RankingValue) (p : Polynomial Symbol) (v : Symbol) → leader (symbols_under r) p ≡ Some v → is_ground (symbols_under r) p ≡ false
+led_not_ground r p v e = by_test (is_ground (symbols_under r) p) refl
+  where
+    by_test : (b : Bool) → is_ground (symbols_under r) p ≡ b → b ≡ false
+    by_test true k = let none : leader (symbols_under r) p ≡ None = ground_no_leader (symbols_under r) p k in absurd cc
+    by_test false k = refl

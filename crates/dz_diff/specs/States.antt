@@ -10,7 +10,7 @@ use Rattle.dz_diff.specs.Root.{has_unit, has_zero}
 use Rattle.dz_diff.specs.State.{State, limit_passed}
 use Rattle.dz_diff.specs.Tests.{Polynomials, same}
 
--- what is true of every state that is reached from a root
+-- the facts of a state: it has them at the root, and each move or fork is to keep them
 pub record IsStateOf (g : Symbols Symbol) (s : State) : Type 0 where
   -- each member is its own norm
   pub equations_normalised : AllOf (λ p. norm p ≡ p) s.equations

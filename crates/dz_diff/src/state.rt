@@ -30,15 +30,14 @@ impl State {
     ghost use Rattle.dz_diff.specs.States.{IsStateOf, StandsIn, state_in};
     ghost use Rattle.dz_terms.specs.Ranked.{symbols_under};
 
-    /// The state with these lists, which have all that is true of a state that is reached from a
-    /// root.
+    /// The state with these lists, which have the facts of a state.
     pub fn new(book: &Book, equations: Vec<Poly>, inequations: Vec<Poly>, splits: u16) -> State
         requires lives { StandsIn book.now (record {
           equations = equations.items;
           inequations = inequations.items;
           splits = splits;
         }) }
-        requires reached { IsStateOf (symbols_under book.now.ranking) (state_in book.now (record {
+        requires facts { IsStateOf (symbols_under book.now.ranking) (state_in book.now (record {
           equations = equations.items;
           inequations = inequations.items;
           splits = splits;

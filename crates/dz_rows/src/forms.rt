@@ -103,7 +103,7 @@ const OPERATORS: [(&[u8], [u8; 4]); 3] = [
 const NO_OPERATORS: [&[u8]; 5] = [b"y,x", b"x,-", b"x,", b"u", b""];
 
 /// The names x and y, u and v.
-fn names(alloc: Global) -> Option<Names>
+pub(crate) fn names(alloc: Global) -> Option<Names>
     ensures { IfSome result (λ names. signature_of names ≡ record { independents = 2; dependents = 2 }) }
 {
     let names = read_system(alloc, TWO, Form::Plain).ok()?.names;
@@ -112,7 +112,7 @@ fn names(alloc: Global) -> Option<Names>
 }
 
 /// A book over these names.
-fn book(alloc: Global) -> Result<Book, AllocError>
+pub(crate) fn book(alloc: Global) -> Result<Book, AllocError>
     ensures { IfOk result (λ book. book.ranking.signature ≡ record { independents = 2; dependents = 2 }) }
 {
     let mut dependents = Vec::new(alloc);

@@ -10,6 +10,10 @@ mod laws;
 #[cfg(test)]
 mod outside;
 #[cfg(test)]
+mod parts;
+#[cfg(test)]
 mod run;
+#[cfg(test)]
+mod steps;
 #[cfg(test)]
 mod systems;
