@@ -14,5 +14,5 @@ mod state;
 pub use derivations::{derivative, partial_derivative};
 pub use differentiating::{apply, differentiate};
 pub use operators::applied;
-pub use parts::{initial, initial_of, leader, leader_of};
+pub use parts::{initial, initial_of, leader, leader_of, separant};
 pub use state::State;

@@ -1,13 +1,15 @@
-//! The leader and the initial.
+//! The leader, the initial and the separant.
 
 ghost use Rattle.std.specs.Prelude.{◌≡◌, false, IfOk, IfErr, IfSome, OnOk, OnErr};
 ghost use Rattle.dz_algebra.specs.Parts.{initial, is_ground, leader};
-ghost use Rattle.dz_poly.specs.Books.{IsAdded, IsKept, Lives, Means, polynomial};
+ghost use Rattle.dz_algebra.specs.Size.{separant_answer};
+ghost use Rattle.dz_poly.specs.Books.{Gives, IsAdded, IsKept, Lives, Means, polynomial};
 ghost use Rattle.dz_rank.specs.Rankings.{RankingValue, ranking_cmp};
 ghost use Rattle.dz_terms.specs.Entries.{IsEntry};
 ghost use Rattle.dz_terms.specs.Ranked.{symbols_under};
 ghost use Rattle.dz_terms.specs.declared.PolyStop.TheVariants.{Memory};
 
+use crate::derivations::partial_derivative;
 use dz_poly::{Book, Poly, PolyStop};
 use dz_rank::{Ranking, Symbol};
 use dz_terms::{Entry, coefficient_entry, exponent_of};
@@ -75,4 +77,23 @@ pub fn initial(book: &mut Book, p: Poly) -> Result<Poly, PolyStop>
     };
     let initial = initial_of(book.allocator(), book.ranking(), book.entry(p), leader)?;
     Ok(book.keep(initial)?)
+}
+
+#[tactic(auto, using(crate::proofs::Leading::unled_not_led))]
+/// The separant of a polynomial that is not ground: the partial derivative by its leader.
+pub fn separant(book: &mut Book, p: Poly) -> Result<Poly, PolyStop>
+    requires lives { Lives book.old p }
+    requires led { is_ground (symbols_under book.old.ranking) (polynomial book.old p) ≡ false }
+    ensures separant { IfSome (leader (symbols_under book.old.ranking) (polynomial book.old p)) (λ l.
+        Gives book.new result
+        (separant_answer (symbols_under book.old.ranking) l (polynomial book.old p))) }
+    ensures kept { OnOk result (IsKept book.old book.new) }
+    ensures added { IfOk result (λ q. IsAdded book.old book.new q) }
+    ensures refused { OnErr result (book.new ≡ book.old) }
+{
+    let Some(lead) = leader_of(book.entry(p)) else {
+        unreachable!()
+    };
+    let separant = partial_derivative(book.allocator(), book.ranking(), book.entry(p), lead)?;
+    Ok(book.keep(separant)?)
 }
