@@ -1,6 +1,6 @@
 //! The workloads of the benchmark in plain Rust: polynomials as sorted lists of terms.
 //!
-//! usage: plain WORKLOAD REPETITIONS, where WORKLOAD is `product`, `by-term` or `sum`.
+//! usage: plain WORKLOAD REPETITIONS, where WORKLOAD is `product`, `by-term`, `sum` or `step`.
 
 use std::cmp::Ordering;
 use std::hint::black_box;
@@ -263,6 +263,84 @@ fn gather(ranking: &Ranking, p: &[Term], q: &[Term]) -> Result<Vec<Cell>, Stop> 
     Ok(cells)
 }
 
+/// The sums of cells.
+fn terms_of(cells: Vec<Cell>) -> Result<Vec<Term>, Stop> {
+    cells
+        .into_iter()
+        .map(|Cell { monomial, amount }| {
+            let (coefficient, _) = amount.ok_or(Stop::Wide)?;
+            Ok(Term {
+                monomial,
+                coefficient,
+            })
+        })
+        .collect()
+}
+
+fn exponent_of(monomial: &[(Symbol, u16)], symbol: Symbol) -> u16 {
+    monomial
+        .iter()
+        .find(|power| power.0 == symbol)
+        .map_or(0, |power| power.1)
+}
+
+fn gcd(mut a: u128, mut b: u128) -> u128 {
+    while b != 0 {
+        (a, b) = (b, a % b);
+    }
+    a
+}
+
+/// The terms that have a symbol, each with the symbol taken once less, times what it is taken to.
+fn derivation_row(
+    ranking: &Ranking,
+    terms: &[Term],
+    symbol: Symbol,
+    next: Option<Symbol>,
+) -> Result<Vec<Cell>, Stop> {
+    let mut cells = Vec::with_capacity(terms.len());
+    for term in terms {
+        let Some(place) = term.monomial.iter().position(|power| power.0 == symbol) else {
+            continue;
+        };
+        let (front, rest) = term.monomial.split_at(place);
+        let raised: Vec<(Symbol, u16)> = next.iter().map(|&next| (next, 1)).collect();
+        let mut monomial = multiply(ranking, front, &raised).ok_or(Stop::Large(Limit::Exponent))?;
+        let exponent = rest[0].1;
+        if exponent > 1 {
+            monomial.push((symbol, exponent - 1));
+        }
+        monomial.extend_from_slice(&rest[1..]);
+        let amount = term
+            .coefficient
+            .checked_mul(i128::from(exponent))
+            .filter(|product| product.unsigned_abs() <= GREATEST)
+            .map(|product| (product, product.unsigned_abs()));
+        cells.push(Cell { monomial, amount });
+    }
+    Ok(cells)
+}
+
+/// The rows of all rates, the halves of which are taken apart.
+fn derivation_cells(
+    ranking: &Ranking,
+    terms: &[Term],
+    rates: &[(Symbol, Option<Symbol>)],
+) -> Result<Vec<Cell>, Stop> {
+    match rates {
+        [] => Ok(Vec::new()),
+        [(symbol, next)] => derivation_row(ranking, terms, *symbol, *next),
+        _ => {
+            let (first, second) = rates.split_at(rates.len() / 2);
+            Ok(merge(
+                ranking,
+                derivation_cells(ranking, terms, first)?,
+                derivation_cells(ranking, terms, second)?,
+            ))
+        }
+    }
+}
+
 /// The greatest exponents in terms.
 fn degrees_of(ranking: &Ranking, terms: &[Term]) -> Monomial {
     let mut degrees = Vec::new();
@@ -374,25 +452,119 @@ impl Polynomial {
         } else {
             (other, self)
         };
-        let terms = gather(ranking, &few.terms, &many.terms)?
-            .into_iter()
-            .map(|Cell { monomial, amount }| {
-                let (coefficient, _) = amount.ok_or(Stop::Wide)?;
-                Ok(Term {
-                    monomial,
-                    coefficient,
-                })
+        let cells = gather(ranking, &few.terms, &many.terms)?;
+        Ok(polynomial(ranking, terms_of(cells)?, degrees))
+    }
+
+    /// What a derivation takes each symbol to, where that is not zero: one, or a further derivative.
+    fn rates(&self, i: usize) -> Result<Vec<(Symbol, Option<Symbol>)>, Stop> {
+        let mut rates = Vec::new();
+        for &(symbol, _) in &self.degrees {
+            match symbol {
+                Symbol::Independent(j) if usize::from(j) == i => rates.push((symbol, None)),
+                Symbol::Independent(_) => {}
+                Symbol::Derivative {
+                    dependent,
+                    mut counts,
+                } => {
+                    if order(counts) == MOST_ORDER {
+                        return Err(Stop::Large(Limit::Order));
+                    }
+                    counts[i] += 1;
+                    rates.push((symbol, Some(Symbol::Derivative { dependent, counts })));
+                }
+            }
+        }
+        Ok(rates)
+    }
+
+    /// What the derivation with these rates makes.
+    fn derived(
+        &self,
+        ranking: &Ranking,
+        rates: &[(Symbol, Option<Symbol>)],
+    ) -> Result<Polynomial, Stop> {
+        let cells = derivation_cells(ranking, &self.terms, rates)?;
+        let mut degrees = Vec::new();
+        for cell in &cells {
+            if let Some(merged) = merge_monomials(ranking, &degrees, &cell.monomial, larger) {
+                degrees = merged;
+            }
+        }
+        if degrees.len() > MOST_SYMBOLS {
+            return Err(Stop::Large(Limit::Symbols));
+        }
+        if cells.len() > MOST_TERMS {
+            return Err(Stop::Large(Limit::Terms));
+        }
+        Ok(polynomial(ranking, terms_of(cells)?, degrees))
+    }
+
+    /// The terms with `symbol^exponent`, each with `left` as its exponent of the symbol.
+    fn part(&self, ranking: &Ranking, symbol: Symbol, exponent: u16, left: u16) -> Polynomial {
+        let terms: Vec<Term> = self
+            .terms
+            .iter()
+            .filter(|term| exponent_of(&term.monomial, symbol) == exponent)
+            .map(|term| Term {
+                monomial: term
+                    .monomial
+                    .iter()
+                    .map(|power| if power.0 == symbol { (symbol, left) } else { *power })
+                    .filter(|power| power.1 != 0)
+                    .collect(),
+                coefficient: term.coefficient,
             })
-            .collect::<Result<Vec<Term>, Stop>>()?;
-        Ok(polynomial(ranking, terms, degrees))
+            .collect();
+        let degrees = degrees_of(ranking, &terms);
+        Polynomial { terms, degrees }
+    }
+
+    fn content(&self) -> u128 {
+        self.terms
+            .iter()
+            .fold(0, |all, term| gcd(term.coefficient.unsigned_abs(), all))
+    }
+
+    fn divide(&mut self, by: i128) {
+        for term in &mut self.terms {
+            term.coefficient /= by;
+        }
+    }
+
+    /// The step by the derivative of `q` by the i-th independent; `None` where it is no step.
+    fn step(&self, ranking: &Ranking, q: &Polynomial, i: usize) -> Result<Option<Polynomial>, Stop> {
+        let Some(&(lead, _)) = q.degrees.first() else {
+            return Ok(None);
+        };
+        let Symbol::Derivative { dependent, mut counts } = lead else {
+            return Ok(None);
+        };
+        counts[i] += 1;
+        let v = Symbol::Derivative { dependent, counts };
+        let degree = exponent_of(&self.degrees, v);
+        if degree == 0 {
+            return Ok(None);
+        }
+        let derivative = q.derived(ranking, &q.rates(i)?)?;
+        let mut multiplier = q.derived(ranking, &[(lead, None)])?;
+        let mut top = self.part(ranking, v, degree, degree - 1);
+        let common = gcd(multiplier.content(), top.content()) as i128;
+        multiplier.divide(common);
+        top.divide(common);
+        let left = multiplier.mul(ranking, self)?;
+        let mut right = top.mul(ranking, &derivative)?;
+        right.divide(-1);
+        let mut rest = left.add(ranking, &right)?;
+        if let Some(first) = rest.terms.first() {
+            let sign = if first.coefficient < 0 { -1 } else { 1 };
+            rest.divide(sign * rest.content() as i128);
+        }
+        Ok(Some(rest))
     }
 
     fn exponent_at(&self, place: usize, symbol: Symbol) -> u16 {
-        let monomial = &self.terms[place].monomial;
-        monomial
-            .iter()
-            .find(|power| power.0 == symbol)
-            .map_or(0, |power| power.1)
+        exponent_of(&self.terms[place].monomial, symbol)
     }
 }
 
@@ -421,6 +593,15 @@ fn symbols() -> Vec<Symbol> {
     symbols.push(Symbol::Independent(0));
     symbols.push(Symbol::Independent(1));
     symbols
+}
+
+/// The divisor of the step: `u[x]^2*v + 3*u*v + 5`, where x is the first independent.
+fn divisor(ranking: &Ranking, symbols: &[Symbol]) -> Result<Polynomial, Stop> {
+    let v = Polynomial::power(1, symbols[1], 1)?;
+    let first = Polynomial::power(1, symbols[2], 2)?.mul(ranking, &v)?;
+    let second = Polynomial::power(3, symbols[0], 1)?.mul(ranking, &v)?;
+    let number = Polynomial::power(5, symbols[0], 0)?;
+    first.add(ranking, &second.add(ranking, &number)?)
 }
 
 /// The product of a power of each symbol plus a number.
@@ -461,10 +642,15 @@ fn run(workload: &str, repetitions: u64) -> Result<(), Stop> {
     let large = p.mul(&ranking, &q)?;
     let other = spread(&ranking, &symbols, 5)?;
     let term = Polynomial::power(3, symbols[4], 2)?;
+    let thousand = spread(&ranking, &symbols[..10], 2)?;
+    let divisor = divisor(&ranking, &symbols)?;
     let operation = || match workload {
         "product" => black_box(&p).mul(&ranking, &q),
         "by-term" => black_box(&term).mul(&ranking, &large),
         "sum" => black_box(&large).add(&ranking, &other),
+        "step" => Ok(black_box(&thousand)
+            .step(&ranking, &divisor, 0)?
+            .expect("this is a step")),
         _ => panic!("no workload has this name"),
     };
 
