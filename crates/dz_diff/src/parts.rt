@@ -65,8 +65,8 @@ pub fn initial(book: &mut Book, p: Poly) -> Result<Poly, PolyStop>
     requires lives { Lives book.old p }
     requires led { is_ground (symbols_under book.old.ranking) (polynomial book.old p) ≡ false }
     ensures value { IfOk result (λ q.
-        IfSome (leader (symbols_under book.old.ranking) (polynomial book.old p)) (λ l. Means book.new q
-        (initial (ranking_cmp book.old.ranking) l (polynomial book.old p)))) }
+        IfSome (leader (symbols_under book.old.ranking) (polynomial book.old p)) (λ l.
+        Means book.new q (initial (ranking_cmp book.old.ranking) l (polynomial book.old p)))) }
     ensures memory { IfErr result (λ e. e ≡ Memory) }
     ensures kept { OnOk result (IsKept book.old book.new) }
     ensures added { IfOk result (λ q. IsAdded book.old book.new q) }
