@@ -1,6 +1,5 @@
 -- The operations on differential polynomials in a setting (Kolchin), each with its refusal.
 use Rattle.std.specs.Prelude.{ℕ, zero, suc, take, List, [], ◌∷◌, Result, Ok}
-use Rattle.std.specs.declared.cmp.Ordering.{Ordering}
 use Rattle.dz_algebra.specs.Polynomial.{Polynomial}
 use Rattle.dz_algebra.specs.Size.{Refusal, derivation_answer}
 use Rattle.dz_algebra.specs.Symbols.{Symbols}

@@ -12,6 +12,8 @@ mod outside;
 #[cfg(test)]
 mod parts;
 #[cfg(test)]
+mod reductions;
+#[cfg(test)]
 mod run;
 #[cfg(test)]
 mod steps;
