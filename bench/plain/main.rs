@@ -595,13 +595,12 @@ fn symbols() -> Vec<Symbol> {
     symbols
 }
 
-/// The divisor of the step: `u[x]^2*v + 3*u*v + 5`, where x is the first independent.
+/// The divisor of the step: `u[x]^2*v + 3*u*v`, where x is the first independent.
 fn divisor(ranking: &Ranking, symbols: &[Symbol]) -> Result<Polynomial, Stop> {
     let v = Polynomial::power(1, symbols[1], 1)?;
     let first = Polynomial::power(1, symbols[2], 2)?.mul(ranking, &v)?;
     let second = Polynomial::power(3, symbols[0], 1)?.mul(ranking, &v)?;
-    let number = Polynomial::power(5, symbols[0], 0)?;
-    first.add(ranking, &second.add(ranking, &number)?)
+    first.add(ranking, &second)
 }
 
 /// The product of a power of each symbol plus a number.
