@@ -8,3 +8,4 @@ pub mod NoSteps
 pub mod Courses
 pub mod StepParts
 pub mod StepAnswers
+pub mod FullCourses

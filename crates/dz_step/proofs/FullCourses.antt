@@ -1,0 +1,130 @@
+-- Full runs, one turn after the other.
+use Rattle.std.specs.Prelude.{⊤, slice_index_or}
+use Rattle.std.proofs.Common.{◌≡◌, ◌<◌, ◌≤◌, ◌+◌, ◌-◌, ◌&&◌, ◌++◌, ◌∙◌, ℕ, zero, suc, Bool, true, false, cond, nat_lt, List, [], ◌∷◌, length, refl, sym, ap, ap₂, subst, arith, Result, Ok, Err, Option, Some, None, append-nil, append_assoc}
+use Rattle.std.proofs.lemmas.Bool.Decides.{nat_tests}
+use Rattle.dz_algebra.specs.Polynomial.{Polynomial, PolynomialIn}
+use Rattle.dz_algebra.specs.Parts.{degree, leader}
+use Rattle.dz_rank.specs.Rankings.{RankingValue, ranking_cmp}
+use Rattle.dz_rank.specs.Symbols.{derivative_by}
+use Rattle.dz_rank.specs.declared.symbols.Symbol.{Symbol}
+use Rattle.dz_terms.specs.Ranked.{symbols_under}
+use Rattle.dz_diff.specs.Lists.{AllOf}
+use Rattle.dz_diff.specs.Operations.{Setting, setting_of}
+use Rattle.dz_diff.specs.Outcome.{◌>>=◌, given, needs}
+use Rattle.dz_diff.specs.State.{State, at_place}
+use Rattle.dz_diff.proofs.Answers.{both}
+use Rattle.dz_diff.proofs.LeaderDerivations.{IsRegular}
+use Rattle.dz_step.specs.declared.Role.{Role}
+use Rattle.dz_step.specs.declared.Step.{Step}
+use Rattle.dz_step.specs.Attempts.{steps_of, IsPrefix}
+use Rattle.dz_step.specs.FullRun.{Course, finished, stopped, passed, full_run_from, next_step, derivatives_of}
+use Rattle.dz_step.specs.Step.{Stop, no_step, is_divisor, is_permitted, step_answer, step_in}
+use Rattle.dz_step.proofs.NextSteps.{FoundStep, Limited, found_first, in_derivatives, next_step_is_step}
+
+module _ (g : Setting) (s : State) (role : Role) (budget : ℕ) (done : List Step) (f : Polynomial Symbol) (count : ℕ) where
+  -- a turn, by the next step and by its answer
+  abbrev after : ℕ → Step → Result (Polynomial Symbol) Stop → Course
+  after rounds st (Err stop) = stopped (done ++ st ∷ []) stop
+  after rounds st (Ok x) = cond (nat_lt budget (count + 1 + length x)) (passed (done ++ st ∷ [])) (full_run_from g s role budget rounds (done ++ st ∷ []) x (count + 1 + length x))
+
+  abbrev turned : ℕ → Option Step → Course
+  turned rounds None = finished done f count
+  turned rounds (Some st) = after rounds st (step_in g s role f st)
+
+  in_turns : (rounds : ℕ) → full_run_from g s role budget (suc rounds) done f count ≡ turned rounds (next_step g s role f)
+  in_turns rounds = by_step (next_step g s role f)
+    where
+      by_answer : (st : Step) (q : Result (Polynomial Symbol) Stop) → (elim q as (λ _. Course) [
+        | Err stop ↦ stopped (done ++ st ∷ []) stop
+        | Ok x ↦ cond (nat_lt budget (count + 1 + length x)) (passed (done ++ st ∷ [])) (full_run_from g s role budget rounds (done ++ st ∷ []) x (count + 1 + length x))
+      ]) ≡ after rounds st q
+      by_answer st (Err stop) = refl
+      by_answer st (Ok x) = refl
+
+      by_step : (o : Option Step) → (elim o as (λ _. Course) [
+        | None ↦ finished done f count
+        | Some st ↦ elim (step_in g s role f st) as (λ _. Course) [
+          | Err stop ↦ stopped (done ++ st ∷ []) stop
+          | Ok x ↦ cond (nat_lt budget (count + 1 + length x)) (passed (done ++ st ∷ [])) (full_run_from g s role budget rounds (done ++ st ∷ []) x (count + 1 + length x))
+        ]
+      ]) ≡ turned rounds o
+      by_step None = refl
+      by_step (Some st) = by_answer st (step_in g s role f st)
+
+  -- where there is no further step, the run is at its end
+  pub at_end : (rounds : ℕ) → next_step g s role f ≡ None → full_run_from g s role budget (suc rounds) done f count ≡ finished done f count
+  at_end rounds e = in_turns rounds ∙ ap (turned rounds) e
+
+  -- a step that has no result stops it
+  pub refused_at : (rounds : ℕ) (st : Step) (stop : Stop) → next_step g s role f ≡ Some st → step_in g s role f st ≡ Err stop → full_run_from g s role budget (suc rounds) done f count ≡ stopped (done ++ st ∷ []) stop
+  refused_at rounds st stop e h = in_turns rounds ∙ ap (turned rounds) e ∙ ap (after rounds st) h
+
+  -- a step within the budget goes on
+  pub goes_on : (rounds : ℕ) (st : Step) (x : Polynomial Symbol) → next_step g s role f ≡ Some st → step_in g s role f st ≡ Ok x → count + 1 + length x ≤ budget
+      → full_run_from g s role budget (suc rounds) done f count ≡ full_run_from g s role budget rounds (done ++ st ∷ []) x (count + 1 + length x)
+  goes_on rounds st x e h l =
+      let low : nat_lt budget (count + 1 + length x) ≡ false = grind (arith, nat_tests) in
+      in_turns rounds ∙ ap (turned rounds) e ∙ ap (after rounds st) h
+      ∙ ap (λ b. cond b (passed (done ++ st ∷ [])) (full_run_from g s role budget rounds (done ++ st ∷ []) x (count + 1 + length x))) low
+
+  -- and one past the budget ends it
+  pub spent_at : (rounds : ℕ) (st : Step) (x : Polynomial Symbol) → next_step g s role f ≡ Some st → step_in g s role f st ≡ Ok x → budget < count + 1 + length x
+      → full_run_from g s role budget (suc rounds) done f count ≡ passed (done ++ st ∷ [])
+  spent_at rounds st x e h l =
+      let high : nat_lt budget (count + 1 + length x) ≡ true = grind (arith, nat_tests) in
+      in_turns rounds ∙ ap (turned rounds) e ∙ ap (after rounds st) h
+      ∙ ap (λ b. cond b (passed (done ++ st ∷ [])) (full_run_from g s role budget rounds (done ++ st ∷ []) x (count + 1 + length x))) high
+
+-- the steps so far are the first of a full run
+pub so_far : (g : Setting) (s : State) (role : Role) (budget rounds : ℕ) (done : List Step) (f : Polynomial Symbol) (count : ℕ) → IsPrefix done (steps_of (full_run_from g s role budget rounds done f count))
+so_far g s role budget zero done f count = ([], append-nil done)
+so_far g s role budget (suc rounds) done f count =
+    subst (λ c. IsPrefix done (steps_of c)) (sym (in_turns g s role budget done f count rounds)) (by_step (next_step g s role f) (λ st x k. so_far g s role budget rounds (done ++ st ∷ []) x k))
+  where
+    further : (st : Step) (steps : List Step) → IsPrefix (done ++ st ∷ []) steps → IsPrefix done steps
+    further st steps p = (st ∷ p.0, sym (append_assoc done (st ∷ []) p.0) ∙ p.1)
+
+    by_test : (st : Step) (x : Polynomial Symbol) (b : Bool) → IsPrefix (done ++ st ∷ []) (steps_of (full_run_from g s role budget rounds (done ++ st ∷ []) x (count + 1 + length x)))
+        → IsPrefix done (steps_of (cond b (passed (done ++ st ∷ [])) (full_run_from g s role budget rounds (done ++ st ∷ []) x (count + 1 + length x))))
+    by_test st x true ih = (st ∷ [], refl)
+    by_test st x false ih = further st _ ih
+
+    by_answer : (st : Step) (q : Result (Polynomial Symbol) Stop) → ((x : Polynomial Symbol) (k : ℕ) → IsPrefix (done ++ st ∷ []) (steps_of (full_run_from g s role budget rounds (done ++ st ∷ []) x k)))
+        → IsPrefix done (steps_of (after g s role budget done f count rounds st q))
+    by_answer st (Err stop) ih = (st ∷ [], refl)
+    by_answer st (Ok x) ih = by_test st x (nat_lt budget (count + 1 + length x)) (ih x (count + 1 + length x))
+
+    by_step : (o : Option Step) → ((st : Step) (x : Polynomial Symbol) (k : ℕ) → IsPrefix (done ++ st ∷ []) (steps_of (full_run_from g s role budget rounds (done ++ st ∷ []) x k)))
+        → IsPrefix done (steps_of (turned g s role budget done f count rounds o))
+    by_step None ih = ([], append-nil done)
+    by_step (Some st) ih = by_answer st (step_in g s role f st) (ih st)
+
+-- ---- the step that is next
+module _ (r : RankingValue) (s : State) (role : Role) (f : Polynomial Symbol) (regular : PolynomialIn (IsRegular 4) f) (all_regular : AllOf (PolynomialIn (IsRegular 4)) s.equations) where
+  -- its divisor, and that its tests hold
+  pub record NextIs (st : Step) : Type 0 where
+    pub equation : Polynomial Symbol
+    pub stands : at_place st.place s.equations ≡ Some equation
+    pub answer : step_in (setting_of r) s role f st ≡ step_answer (setting_of r) f equation st.operator
+    pub limited : Limited (step_in (setting_of r) s role f st)
+
+  pub next_is : (st : Step) → next_step (setting_of r) s role f ≡ Some st → NextIs st
+  next_is st e =
+      let k = found_first r s role f (IsRegular 4) st (derivatives_of (symbols_under r) f) e (in_derivatives (symbols_under r) (IsRegular 4) (IsRegular 4) (λ s h _. h) f regular) in by_found k.0 k.2
+    where
+      by_found : (v : Symbol) → FoundStep r s role f v st 0 s.equations → NextIs st
+      by_found v k =
+          let place : st.place ≡ k.index = k.place_is ∙ omega arith in
+          let there : at_place st.place s.equations ≡ Some k.equation = ap (λ i. at_place i s.equations) place ∙ k.is_there in
+          let b = both _ (is_permitted (setting_of r) s role k.equation k.top st.operator) k.tests in
+          let d = both (is_divisor role st.place) _ b.0 in
+          record {
+            equation = k.equation;
+            stands = there;
+            answer =
+            ap (λ (b : Bool). needs b no_step >>= (λ _. given (at_place st.place s.equations) no_step >>= (λ q. given (leader (symbols_under r) q) no_step >>= (λ l. needs (is_permitted (setting_of r) s role q l st.operator) no_step >>= (λ _. step_answer (setting_of r) f q st.operator))))) d.0
+            ∙ ap (λ (o : Option (Polynomial Symbol)). given o no_step >>= (λ q. given (leader (symbols_under r) q) no_step >>= (λ l. needs (is_permitted (setting_of r) s role q l st.operator) no_step >>= (λ _. step_answer (setting_of r) f q st.operator)))) there
+            ∙ ap (λ (o : Option Symbol). given o no_step >>= (λ l. needs (is_permitted (setting_of r) s role k.equation l st.operator) no_step >>= (λ _. step_answer (setting_of r) f k.equation st.operator))) k.leader_is
+            ∙ ap (λ (b : Bool). needs b no_step >>= (λ _. step_answer (setting_of r) f k.equation st.operator)) b.1;
+            limited = next_step_is_step r s role f st e regular all_regular;
+          }
