@@ -8,3 +8,5 @@ pub mod NoSteps
 pub mod Courses
 pub mod StepParts
 pub mod StepAnswers
+pub mod Permissions
+pub mod BookPlaces

@@ -1,4 +1,5 @@
 pub mod Step
+pub mod Permission
 pub mod Run
 pub mod FullRun
 pub mod Laws

@@ -7,12 +7,14 @@ ghost use Rattle.std.specs.Prelude.{◌≡◌};
 ghost use Rattle.dz_rank.specs.Symbols.{identity};
 
 pub mod laws;
+mod permission;
 mod reducing;
 pub mod stepping;
 mod steps;
 
 pub use dz_diff::State;
 use dz_rank::Operator;
+pub use permission::permitted;
 pub use stepping::StepStop;
 pub use steps::StepList;
 
