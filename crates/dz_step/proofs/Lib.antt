@@ -10,3 +10,4 @@ pub mod StepParts
 pub mod StepAnswers
 pub mod Permissions
 pub mod BookPlaces
+pub mod RunEnds
