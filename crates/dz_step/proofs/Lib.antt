@@ -9,3 +9,6 @@ pub mod Courses
 pub mod StepParts
 pub mod StepAnswers
 pub mod FullCourses
+pub mod Permissions
+pub mod BookPlaces
+pub mod RunEnds

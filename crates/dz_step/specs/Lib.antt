@@ -1,6 +1,9 @@
 pub mod Step
+pub mod Permission
 pub mod Run
 pub mod FullRun
 pub mod Laws
 pub mod StepStops
 pub mod Attempts
+pub mod Replays
+pub mod Turns

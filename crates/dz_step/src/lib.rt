@@ -1,18 +1,23 @@
 //! Steps of Ritt's reduction, runs of them, and full runs.
 //!
-//! So far there are lists of steps, and of runs the definitions in `specs/` and the laws in `laws`.
+//! There are permission of multipliers, one step, and replays of runs. Of full runs there are so far the
+//! definitions in `specs/` and the laws in `laws`.
 #![tactic(auto)]
 
 ghost use Rattle.std.specs.Prelude.{◌≡◌};
 ghost use Rattle.dz_rank.specs.Symbols.{identity};
 
 pub mod laws;
+mod permission;
 mod reducing;
+mod replaying;
 pub mod stepping;
 mod steps;
 
 pub use dz_diff::State;
 use dz_rank::Operator;
+pub use permission::permitted;
+pub use replaying::{ReplayFault, replay};
 pub use stepping::StepStop;
 pub use steps::StepList;
 

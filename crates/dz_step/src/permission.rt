@@ -1,0 +1,178 @@
+//! Which multipliers a state permits.
+
+ghost use Rattle.std.specs.Prelude.{◌≡◌, Some, Ok, IfOk, IfErr};
+ghost use Rattle.dz_algebra.specs.Parts.{leader};
+ghost use Rattle.dz_rank.specs.Rankings.{RankingValue};
+ghost use Rattle.dz_terms.specs.Entries.{IsEntry};
+ghost use Rattle.dz_terms.specs.Ranked.{symbols_under};
+ghost use Rattle.dz_terms.specs.Stops.{IsStop};
+ghost use Rattle.dz_diff.specs.Operations.{setting_of};
+ghost use Rattle.dz_diff.specs.State.{at_place, without_place};
+ghost use Rattle.dz_diff.specs.States.{LiveAll, StandsIn, polynomials, state_in};
+ghost use Rattle.dz_diff.specs.Tests.{Polynomials, is_member, is_unit};
+ghost use Rattle.dz_step.specs.Permission.{is_permitted_at};
+ghost use Rattle.dz_step.specs.Step.{is_allowed, multiplier_answer, multiplier_of, permitted_if, usable};
+
+use crate::stepping::takes_derivation;
+use crate::{Role, Which};
+use dz_diff::{State, initial_of, leader_of, partial_derivative};
+use dz_poly::{Book, Poly};
+use dz_rank::{Operator, Ranking, Symbol};
+use dz_terms::{Entry, PolyStop, Term, into_norm, same_terms};
+use std::alloc::{AllocError, Global};
+
+/// The initial or the separant of an entry by a symbol.
+#[tactic(auto, using(crate::proofs::Permissions::initial_answered))]
+fn multiplier(
+    alloc: Global,
+    ranking: &Ranking,
+    q: &Entry,
+    lead: Symbol,
+    which: Which,
+) -> Result<Entry, PolyStop>
+    requires { IsEntry ranking.now q.now.terms.items q.now.degrees.items }
+    ensures ok { IfOk result (λ m.
+        multiplier_answer (symbols_under ranking.now) which lead q.now.terms.items
+        ≡ Ok m.terms.items) }
+    ensures entry { IfOk result (λ m. IsEntry ranking.now m.terms.items m.degrees.items) }
+    ensures refused { IfErr result (λ stop. IsStop stop
+        (multiplier_answer (symbols_under ranking.now) which lead q.now.terms.items)) }
+{
+    match which {
+        Which::Initial => Ok(initial_of(alloc, ranking, q, lead)?),
+        Which::Separant => partial_derivative(alloc, ranking, q, lead),
+    }
+}
+
+/// The place of the inequation that permits nothing in a role, 0 for none.
+#[tactic(auto, using(crate::proofs::Permissions::none_left_out))]
+fn left_out(role: Role) -> usize
+    ensures { (hs : Polynomials) → usable role hs ≡ without_place result hs }
+{
+    match role {
+        Role::Inequation(place) => place as usize,
+        _ => 0,
+    }
+}
+
+/// Whether terms are those of an inequation, the one at a place left out.
+fn is_among(book: &Book, inequations: &[Poly], left_out: usize, terms: &[Term]) -> bool
+    requires { LiveAll book.now inequations.now }
+    ensures { result ≡ is_member (symbols_under book.now.ranking) terms.now
+        (without_place left_out (polynomials book.now inequations.now)) }
+{
+    'places: for k in 0..inequations.len() {
+        let inequation = book.entry(inequations[k]);
+        if k + 1 != left_out && same_terms(book.ranking(), terms, inequation.terms.as_slice()) {
+            return true;
+        }
+    }
+    false
+}
+
+/// Whether an entry is ground and not zero.
+fn is_unit(entry: &Entry) -> bool
+    ensures { (r : RankingValue) → IsEntry r entry.now.terms.items entry.now.degrees.items
+        → result ≡ is_unit (symbols_under r) entry.now.terms.items }
+{
+    match leader_of(entry) {
+        Some(_) => false,
+        None => !entry.terms.is_empty(),
+    }
+}
+
+/// Whether a multiplier is ground and not zero, or its norm is an inequation that counts in a role.
+fn may_multiply(book: &Book, state: &State, role: Role, multiplier: Entry) -> bool
+    requires stands { StandsIn book.now state.now }
+    requires multiplier { IsEntry book.now.ranking multiplier.terms.items multiplier.degrees.items }
+    ensures { result ≡ is_allowed (symbols_under book.now.ranking)
+        (usable role (state_in book.now state.now).inequations) multiplier.terms.items }
+{
+    if is_unit(&multiplier) {
+        return true;
+    }
+    let norm = into_norm(multiplier);
+    is_among(
+        book,
+        state.inequations(),
+        left_out(role),
+        norm.terms.as_slice(),
+    )
+}
+
+/// Whether a multiplier of an equation with this leader fits and is permitted in a role.
+#[tactic(auto, using(crate::proofs::Permissions::refused_not_permitted))]
+pub(crate) fn is_granted(
+    book: &Book,
+    state: &State,
+    role: Role,
+    q: &Entry,
+    lead: Symbol,
+    which: Which,
+) -> Result<bool, AllocError>
+    requires stands { StandsIn book.now state.now }
+    requires q { IsEntry book.now.ranking q.now.terms.items q.now.degrees.items }
+    requires leads { leader (symbols_under book.now.ranking) q.now.terms.items ≡ Some lead }
+    ensures { IfOk result (λ b. b ≡ permitted_if (symbols_under book.now.ranking)
+        (usable role (state_in book.now state.now).inequations)
+        (multiplier_answer (symbols_under book.now.ranking) which lead q.now.terms.items)) }
+{
+    match multiplier(book.allocator(), book.ranking(), q, lead, which) {
+        Ok(multiplier) => Ok(may_multiply(book, state, role, multiplier)),
+        Err(PolyStop::Memory) => Err(AllocError),
+        Err(_) => Ok(false),
+    }
+}
+
+/// The initial of an operator's derivative: the separant for a proper operator.
+pub(crate) fn which_of(operator: Operator) -> Which
+    ensures { result ≡ multiplier_of operator }
+{
+    if takes_derivation(operator) {
+        Which::Separant
+    } else {
+        Which::Initial
+    }
+}
+
+/// The equation at a place, counted from 1.
+#[tactic(auto, using(crate::proofs::BookPlaces::no_place, crate::proofs::BookPlaces::past_all, crate::proofs::BookPlaces::place_is))]
+pub(crate) fn equation_at(state: &State, place: u16) -> Option<Poly>
+    ensures { result ≡ at_place place state.now.equations }
+{
+    let equations = state.equations();
+    let place = place as usize;
+    if place == 0 {
+        return None;
+    }
+    if place > equations.len() {
+        return None;
+    }
+    Some(equations[place - 1])
+}
+
+/// Whether the multiplier of a step by the equation at a place, counted from 1, is permitted in a
+/// role; no, where there is no such place or its equation is ground.
+///
+/// The multiplier is the separant of the equation where the operator takes a derivation, and else
+/// its initial.
+pub fn permitted(
+    book: &Book,
+    state: &State,
+    role: Role,
+    j: u16,
+    operator: Operator,
+) -> Result<bool, AllocError>
+    requires { StandsIn book.now state.now }
+    ensures { IfOk result (λ b. b ≡ is_permitted_at (setting_of book.now.ranking)
+        (state_in book.now state.now) role j operator) }
+{
+    let Some(p) = equation_at(state, j) else {
+        return Ok(false);
+    };
+    let q = book.entry(p);
+    let Some(lead) = leader_of(q) else {
+        return Ok(false);
+    };
+    is_granted(book, state, role, q, lead, which_of(operator))
+}
