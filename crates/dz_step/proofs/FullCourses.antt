@@ -1,7 +1,8 @@
 -- Full runs, one turn after the other.
-use Rattle.std.specs.Prelude.{⊤, slice_index_or}
-use Rattle.std.proofs.Common.{◌≡◌, ◌<◌, ◌≤◌, ◌+◌, ◌-◌, ◌&&◌, ◌++◌, ◌∙◌, ℕ, zero, suc, Bool, true, false, cond, nat_lt, List, [], ◌∷◌, length, refl, sym, ap, ap₂, subst, arith, Result, Ok, Err, Option, Some, None, append-nil, append_assoc}
+use Rattle.std.specs.Prelude.{IfErr, IfOk}
+use Rattle.std.proofs.Common.{◌≡◌, ◌≢◌, ◌⊎◌, inl, inr, ◌<◌, ◌≤◌, ◌+◌, ◌-◌, ◌&&◌, ◌++◌, ◌∙◌, ℕ, zero, suc, Bool, true, false, cond, nat_lt, List, [], ◌∷◌, length, refl, sym, ap, ap₂, subst, arith, Result, Ok, Err, Option, Some, None, append-nil, append_assoc}
 use Rattle.std.proofs.lemmas.Bool.Decides.{nat_tests}
+use Rattle.std.proofs.lemmas.List.Elements.{All-head, All-tail}
 use Rattle.dz_algebra.specs.Polynomial.{Polynomial, PolynomialIn}
 use Rattle.dz_algebra.specs.Parts.{degree, leader}
 use Rattle.dz_rank.specs.Rankings.{RankingValue, ranking_cmp}
@@ -18,7 +19,15 @@ use Rattle.dz_step.specs.declared.Role.{Role}
 use Rattle.dz_step.specs.declared.Step.{Step}
 use Rattle.dz_step.specs.Attempts.{steps_of, IsPrefix}
 use Rattle.dz_step.specs.FullRun.{Course, finished, stopped, passed, full_run_from, next_step, derivatives_of}
-use Rattle.dz_step.specs.Step.{Stop, no_step, is_divisor, is_permitted, step_answer, step_in}
+use Rattle.dz_algebra.specs.Size.{wide, large}
+use Rattle.dz_poly.specs.Books.{BookValue, IsBook, Lives, polynomial}
+use Rattle.dz_terms.specs.Entries.{IsKeepable}
+use Rattle.dz_diff.specs.States.{LiveAll, polynomials}
+use Rattle.dz_diff.proofs.Overs.{regular_over}
+use Rattle.dz_step.specs.StepStops.{IsStepStop}
+use Rattle.dz_step.specs.declared.stepping.StepStop.{StepStop}
+use Rattle.dz_step.specs.declared.stepping.StepStop.TheVariants.{Memory, Wide, Large, NotStep}
+use Rattle.dz_step.specs.Step.{Stop, refused, no_step, is_divisor, is_permitted, step_answer, step_in}
 use Rattle.dz_step.proofs.NextSteps.{FoundStep, Limited, found_first, in_derivatives, next_step_is_step}
 
 module _ (g : Setting) (s : State) (role : Role) (budget : ℕ) (done : List Step) (f : Polynomial Symbol) (count : ℕ) where
@@ -128,3 +137,37 @@ module _ (r : RankingValue) (s : State) (role : Role) (f : Polynomial Symbol) (r
             ∙ ap (λ (b : Bool). needs b no_step >>= (λ _. step_answer (setting_of r) f k.equation st.operator)) b.1;
             limited = next_step_is_step r s role f st e regular all_regular;
           }
+
+-- an operation alone refuses what is limited
+pub not_no_step : {A : Type 0} (q : Result A Stop) (stop : StepStop) → Limited q → IsStepStop stop q → stop ≢ NotStep
+not_no_step q stop l (inl e) n = let z : Memory ≡ NotStep = sym e ∙ n in cc
+not_no_step (Ok x) stop l (inr e) n = cc
+not_no_step (Err (refused wide)) stop l (inr e) n = let z : Wide ≡ NotStep = same e ∙ n in cc
+  where
+    same : ◌≡◌ {A = Option StepStop} (Some Wide) (Some stop) → Wide ≡ stop
+    same e = cc
+not_no_step (Err (refused (large m))) stop l (inr e) n = let z : Large m ≡ NotStep = same e ∙ n in cc
+  where
+    same : ◌≡◌ {A = Option StepStop} (Some (Large m)) (Some stop) → Large m ≡ stop
+    same e = cc
+not_no_step (Err no_step) stop l (inr e) n = absurd l
+
+-- ---- in a book
+-- the terms of an entry have operators of four exponents
+pub entry_regular : (r : RankingValue) (p : Polynomial Symbol) → IsKeepable r p → PolynomialIn (IsRegular 4) p
+entry_regular r p h = regular_over r p (record { canonical = h.canonical; belongs = h.belongs })
+
+-- and so have the polynomials of a list
+pub list_regular : (book : BookValue) (ps : List ℕ) → IsBook book → LiveAll book ps → AllOf (PolynomialIn (IsRegular 4)) (polynomials book ps)
+list_regular book [] h l = tt
+list_regular book (p ∷ ps) h l = (entry_regular book.ranking (polynomial book p) (h.each p [] (All-head (λ p. Lives book p) p ps l)), list_regular book ps h (All-tail (λ p. Lives book p) p ps l))
+
+-- what follows for an error follows for that of a result
+pub err_weaker : {A E : Type 0} {P Q : E → Type 0} (q : Result A E) → ((e : E) → P e → Q e) → IfErr q P → IfErr q Q
+err_weaker (Ok x) f h = h
+err_weaker (Err e) f h = f e h
+
+-- and what follows for a result follows for that of a call
+pub ok_weaker : {A E : Type 0} {P Q : A → Type 0} (q : Result A E) → ((x : A) → P x → Q x) → IfOk q P → IfOk q Q
+ok_weaker (Ok x) f h = f x h
+ok_weaker (Err e) f h = h

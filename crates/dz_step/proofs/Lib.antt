@@ -12,3 +12,7 @@ pub mod FullCourses
 pub mod Permissions
 pub mod BookPlaces
 pub mod RunEnds
+pub mod Regularity
+pub mod DivisorTables
+pub mod Searches
+pub mod Advances

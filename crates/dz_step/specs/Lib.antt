@@ -7,3 +7,4 @@ pub mod StepStops
 pub mod Attempts
 pub mod Replays
 pub mod Turns
+pub mod Divisors

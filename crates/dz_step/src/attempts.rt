@@ -1,22 +1,30 @@
 //! Full runs.
 
-ghost use Rattle.std.specs.Prelude.{◌≡◌, ◌≤◌, [], length, map, Some, IfOk, IfErr, OnOk, OnErr};
-ghost use Rattle.dz_poly.specs.Books.{IsKept, Lives, polynomial};
+ghost use Rattle.std.specs.Prelude.{◌≡◌, ◌≢◌, ◌≤◌, ◌<◌, ℕ, true, [], length, Some, Ok, IfOk, IfErr, OnOk, OnErr};
+ghost use Rattle.dz_poly.specs.Books.{IsAdded, IsKept, Lives, polynomial};
 ghost use Rattle.dz_terms.specs.Entries.{IsEntry};
 ghost use Rattle.dz_diff.specs.Operations.{setting_of};
 ghost use Rattle.dz_diff.specs.States.{StandsIn, state_in};
 ghost use Rattle.dz_step.specs.Attempts.{IsAttemptOf, ended};
 ghost use Rattle.dz_step.specs.Divisors.{AreDivisors};
-ghost use Rattle.dz_step.specs.FullRun.{full_run};
-ghost use Rattle.dz_step.specs.Turns.{IsTurn};
+ghost use Rattle.dz_step.specs.FullRun.{full_run, next_step};
+ghost use Rattle.dz_step.specs.Step.{step_in};
+ghost use Rattle.dz_step.specs.StepStops.{IsStepStop};
+ghost use Rattle.dz_step.specs.declared.attempts.AttemptStop.TheVariants.{Memory};
+ghost use Rattle.dz_step.specs.declared.stepping.StepStop.TheVariants.{NotStep};
+ghost use Rattle.dz_algebra.specs.Polynomial.{Polynomial};
+ghost use Rattle.dz_rank.specs.declared.symbols.Symbol.{Symbol};
+ghost use Rattle.dz_step.specs.Turns.{IsAdvance, IsAt, IsTurn};
 
-use crate::divisors::{Divisor, divisors_of};
+use crate::divisors::{Divisor, divisors};
+use crate::permission::equation_at;
+use crate::replaying::norm_entry;
 use crate::searching::next_step_entry;
 use crate::stepping::{StepStop, step_entry};
 use crate::{Role, Step, StepList};
 use dz_diff::State;
 use dz_poly::{Book, Limit, Poly};
-use dz_terms::{Entry, copied, into_norm};
+use dz_terms::Entry;
 use std::alloc::Global;
 use thiserror::Error;
 
@@ -53,26 +61,51 @@ pub(crate) enum Turn {
     Stopped(AttemptStop),
 }
 
-/// The turn that the next step makes, where `left` of the budget is left.
-fn turn_by(
-    alloc: Global,
+/// How far a full run has come: its steps, the result of the last, and what is left of the budget.
+#[derive(Drop)]
+pub(crate) struct Progress {
+    pub(crate) run: StepList,
+    pub(crate) rest: Entry,
+    pub(crate) left: u32,
+}
+
+/// The result of the step that is next on `f`.
+fn next_result(
     book: &Book,
     state: &State,
     role: Role,
     f: &Entry,
     step: Step,
-    left: u32,
-) -> Turn
+) -> Result<Entry, StepStop>
     requires stands { StandsIn book.now state.now }
     requires f { IsEntry book.now.ranking f.now.terms.items f.now.degrees.items }
     requires next { next_step (setting_of book.now.ranking) (state_in book.now state.now) role
         f.now.terms.items ≡ Some step }
-    ensures turn { IsTurn (setting_of book.now.ranking) (state_in book.now state.now) role
-        f.now.terms.items left result }
-    ensures entry { IsTaken book.now.ranking result }
+    ensures ok { IfOk result (λ x. step_in (setting_of book.now.ranking)
+        (state_in book.now state.now) role f.now.terms.items step ≡ Ok x.terms.items) }
+    ensures entry { IfOk result (λ x. IsEntry book.now.ranking x.terms.items x.degrees.items) }
+    ensures refused { IfErr result (λ stop. IsStepStop stop (step_in (setting_of book.now.ranking)
+        (state_in book.now state.now) role f.now.terms.items step)) }
+    ensures limited { IfErr result (λ stop. stop ≢ NotStep) }
 {
-    let q = book.entry(state.equations()[usize::from(step.place) - 1]);
-    match step_entry(alloc, book.ranking(), f, q, step.operator) {
+    // The facts of all books are known of this one.
+    book.opened();
+    let Some(p) = equation_at(state, step.place) else {
+        unreachable!()
+    };
+    step_entry(book.allocator(), book.ranking(), f, book.entry(p), step.operator)
+}
+
+/// The turn of the step that is next on `f`, where `left` of the budget is left.
+fn turn_by(book: &Book, state: &State, role: Role, f: &Entry, step: Step, left: u32) -> Turn
+    requires stands { StandsIn book.now state.now }
+    requires f { IsEntry book.now.ranking f.now.terms.items f.now.degrees.items }
+    requires next { next_step (setting_of book.now.ranking) (state_in book.now state.now) role
+        f.now.terms.items ≡ Some step }
+    ensures { IsTurn book.now.ranking (state_in book.now state.now) role f.now.terms.items left
+        result }
+{
+    match next_result(book, state, role, f, step) {
         Ok(rest) => {
             if rest.terms.len() >= left as usize {
                 return Turn::Stopped(AttemptStop::Spent(step));
@@ -83,5 +116,182 @@ fn turn_by(
         Err(StepStop::Wide) => Turn::Stopped(AttemptStop::Wide(step)),
         Err(StepStop::Large(limit)) => Turn::Stopped(AttemptStop::Large(limit, step)),
         Err(StepStop::NotStep) => unreachable!(),
+    }
+}
+
+/// One turn of a full run, which is at `f`, where `left` of the budget is left.
+fn one_turn(
+    book: &Book,
+    state: &State,
+    role: Role,
+    table: &mut Vec<Option<Divisor>>,
+    f: &Entry,
+    left: u32,
+) -> Turn
+    requires stands { StandsIn book.now state.now }
+    requires few { length state.now.equations ≤ 65535 }
+    requires table { AreDivisors book.now.ranking (state_in book.now state.now) role table.old.items }
+    requires f { IsEntry book.now.ranking f.now.terms.items f.now.degrees.items }
+    ensures table { AreDivisors book.now.ranking (state_in book.now state.now) role table.new.items }
+    ensures turn { IsTurn book.now.ranking (state_in book.now state.now) role f.now.terms.items left
+        result }
+{
+    match next_step_entry(book, state, role, table, f) {
+        Ok(Some(step)) => turn_by(book, state, role, f, step, left),
+        Ok(None) => Turn::AtRest,
+        Err(_) => Turn::Stopped(AttemptStop::Memory),
+    }
+}
+
+/// One turn of a full run: whether a step was taken, or why it stops here.
+fn advance(
+    book: &Book,
+    state: &State,
+    role: Role,
+    table: &mut Vec<Option<Divisor>>,
+    progress: &mut Progress,
+) -> Result<bool, AttemptStop>
+    requires stands { StandsIn book.now state.now }
+    requires few { length state.now.equations ≤ 65535 }
+    requires table { AreDivisors book.now.ranking (state_in book.now state.now) role table.old.items }
+    requires rest { IsEntry book.now.ranking progress.old.rest.terms.items progress.old.rest.degrees.items }
+    ensures table { AreDivisors book.now.ranking (state_in book.now state.now) role table.new.items }
+    ensures rest { IsEntry book.now.ranking progress.new.rest.terms.items progress.new.rest.degrees.items }
+    ensures less { IfOk result (λ taken. taken ≡ true → progress.new.left < progress.old.left) }
+    ensures advance { (budget : ℕ) (f : Polynomial Symbol)
+        → IsAt book.now.ranking (state_in book.now state.now) role budget f progress.old
+        → IsAdvance book.now.ranking (state_in book.now state.now) role budget f progress.new result }
+{
+    match one_turn(book, state, role, table, &progress.rest, progress.left) {
+        Turn::AtRest => Ok(false),
+        Turn::Stopped(stop) => Err(stop),
+        Turn::Taken(step, next) => {
+            if progress.run.push(step).is_err() {
+                return Err(AttemptStop::Memory);
+            }
+            progress.left -= 1 + next.terms.len() as u32;
+            progress.rest = next;
+            Ok(true)
+        }
+    }
+}
+
+/// A full run that comes to its end, from where it is.
+fn run_out(
+    book: &Book,
+    state: &State,
+    role: Role,
+    table: Vec<Option<Divisor>>,
+    first: Progress,
+) -> Result<Progress, Attempt>
+    requires stands { StandsIn book.now state.now }
+    requires few { length state.now.equations ≤ 65535 }
+    requires table { AreDivisors book.now.ranking (state_in book.now state.now) role table.items }
+    requires rest { IsEntry book.now.ranking first.rest.terms.items first.rest.degrees.items }
+    ensures ok { IfOk result (λ p. (budget : ℕ) (f : Polynomial Symbol)
+        → IsAt book.now.ranking (state_in book.now state.now) role budget f first
+        → ended (full_run (setting_of book.now.ranking) (state_in book.now state.now) role budget f)
+        ≡ Some (p.run, p.rest.terms.items)) }
+    ensures rest { IfOk result (λ p.
+        IsEntry book.now.ranking p.rest.terms.items p.rest.degrees.items) }
+    ensures stopped { IfErr result (λ a. (budget : ℕ) (f : Polynomial Symbol)
+        → IsAt book.now.ranking (state_in book.now state.now) role budget f first
+        → IsAttemptOf (full_run (setting_of book.now.ranking) (state_in book.now state.now) role budget f)
+        a.run a.stop) }
+{
+    let mut table = table;
+    let mut progress = first;
+    'turns: loop {
+        match advance(book, state, role, &mut table, &mut progress) {
+            Ok(true) => {}
+            Ok(false) => return Ok(progress),
+            Err(stop) => {
+                return Err(Attempt {
+                    run: progress.run,
+                    stop,
+                });
+            }
+        }
+    }
+}
+
+/// An attempt without steps for which memory ran out.
+fn no_memory(alloc: Global) -> Attempt
+    ensures run { result.run ≡ [] }
+    ensures stop { result.stop ≡ Memory }
+{
+    Attempt {
+        run: StepList::new(alloc),
+        stop: AttemptStop::Memory,
+    }
+}
+
+/// The full run on `f`, with its end.
+fn full_progress(
+    alloc: Global,
+    book: &Book,
+    f: Poly,
+    state: &State,
+    role: Role,
+    budget: u32,
+) -> Result<Progress, Attempt>
+    requires stands { StandsIn book.now state.now }
+    requires few { length state.now.equations ≤ 65535 }
+    requires f { Lives book.now f }
+    ensures ok { IfOk result (λ p.
+        ended (full_run (setting_of book.now.ranking) (state_in book.now state.now) role budget
+        (polynomial book.now f)) ≡ Some (p.run, p.rest.terms.items)) }
+    ensures rest { IfOk result (λ p.
+        IsEntry book.now.ranking p.rest.terms.items p.rest.degrees.items) }
+    ensures stopped { IfErr result (λ a. IsAttemptOf (full_run (setting_of book.now.ranking)
+        (state_in book.now state.now) role budget (polynomial book.now f)) a.run a.stop) }
+{
+    let Ok(table) = divisors(book, state, role) else {
+        return Err(no_memory(alloc));
+    };
+    let Ok(rest) = norm_entry(book, f) else {
+        return Err(no_memory(alloc));
+    };
+    let first = Progress {
+        run: StepList::new(alloc),
+        rest,
+        left: budget,
+    };
+    run_out(book, state, role, table, first)
+}
+
+/// The full run on `f` at a state in a role within a budget, with its end.
+///
+/// As long as there is a step in the role, it takes the one at the greatest derivative, with the
+/// least place. The count of a run is the number of its steps and of the terms of all their results.
+/// Where the run stops before its end, the steps so far are a run, and the next step is named that
+/// has no result or makes the count pass the budget. Only the end is put into the book.
+pub fn reduce_fully(
+    alloc: Global,
+    book: &mut Book,
+    f: Poly,
+    state: &State,
+    role: Role,
+    budget: u32,
+) -> Result<(StepList, Poly), Attempt>
+    requires stands { StandsIn book.old state.now }
+    requires few { length state.now.equations ≤ 65535 }
+    requires f { Lives book.old f }
+    ensures ended { IfOk result (λ x.
+        ended (full_run (setting_of book.old.ranking) (state_in book.old state.now) role budget
+        (polynomial book.old f)) ≡ Some (x.0, polynomial book.new x.1)) }
+    ensures stopped { IfErr result (λ a. IsAttemptOf (full_run (setting_of book.old.ranking)
+        (state_in book.old state.now) role budget (polynomial book.old f)) a.run a.stop) }
+    ensures kept { OnOk result (IsKept book.old book.new) }
+    ensures added { IfOk result (λ x. IsAdded book.old book.new x.1) }
+    ensures refused { OnErr result (book.new ≡ book.old) }
+{
+    let Progress { run, rest, left: _ } = full_progress(alloc, book, f, state, role, budget)?;
+    match book.keep(rest) {
+        Ok(end) => Ok((run, end)),
+        Err(_) => Err(Attempt {
+            run,
+            stop: AttemptStop::Memory,
+        }),
     }
 }

@@ -7,13 +7,17 @@
 ghost use Rattle.std.specs.Prelude.{◌≡◌};
 ghost use Rattle.dz_rank.specs.Symbols.{identity};
 
+mod attempts;
+mod divisors;
 pub mod laws;
 mod permission;
 mod reducing;
 mod replaying;
+mod searching;
 pub mod stepping;
 mod steps;
 
+pub use attempts::{Attempt, AttemptStop, reduce_fully};
 pub use dz_diff::State;
 use dz_rank::Operator;
 pub use permission::permitted;

@@ -127,7 +127,7 @@ fn numbered_step(
 }
 
 /// The norm of a polynomial of a book; the book keeps the polynomial.
-fn norm_entry(book: &Book, f: Poly) -> Result<Entry, AllocError>
+pub(crate) fn norm_entry(book: &Book, f: Poly) -> Result<Entry, AllocError>
     requires { Lives book.now f }
     ensures terms { IfOk result (λ x. x.terms.items ≡ norm (polynomial book.now f)) }
     ensures entry { IfOk result (λ x. IsEntry book.now.ranking x.terms.items x.degrees.items) }
