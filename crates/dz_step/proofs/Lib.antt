@@ -8,3 +8,6 @@ pub mod NoSteps
 pub mod Courses
 pub mod StepParts
 pub mod StepAnswers
+pub mod Regularity
+pub mod DivisorTables
+pub mod Searches

@@ -3,3 +3,4 @@ pub mod Run
 pub mod FullRun
 pub mod Laws
 pub mod StepStops
+pub mod Divisors

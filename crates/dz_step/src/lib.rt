@@ -1,13 +1,17 @@
 //! Steps of Ritt's reduction, runs of them, and full runs.
 //!
-//! So far there are lists of steps, and of runs the definitions in `specs/` and the laws in `laws`.
+//! So far there are lists of steps, steps on entries and in a book, and the search for the next one;
+//! of runs there are the definitions in `specs/` and the laws in `laws`.
 #![tactic(auto)]
 
 ghost use Rattle.std.specs.Prelude.{◌≡◌};
 ghost use Rattle.dz_rank.specs.Symbols.{identity};
 
+mod divisors;
 pub mod laws;
+mod permission;
 mod reducing;
+mod searching;
 pub mod stepping;
 mod steps;
 

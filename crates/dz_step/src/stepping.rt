@@ -62,7 +62,7 @@ impl From<AllocError> for StepStop {
 }
 
 /// Whether an operator takes a derivation.
-fn takes_derivation(operator: Operator) -> bool
+pub(crate) fn takes_derivation(operator: Operator) -> bool
     ensures { result ≡ is_proper operator }
 {
     let [i, j, k, l] = operator.counts;
