@@ -11,3 +11,4 @@ pub mod StepAnswers
 pub mod Regularity
 pub mod DivisorTables
 pub mod Searches
+pub mod PowerQuotients

@@ -4,3 +4,4 @@ pub mod FullRun
 pub mod Laws
 pub mod StepStops
 pub mod Divisors
+pub mod Division

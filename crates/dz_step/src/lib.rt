@@ -7,6 +7,7 @@
 ghost use Rattle.std.specs.Prelude.{◌≡◌};
 ghost use Rattle.dz_rank.specs.Symbols.{identity};
 
+mod dividing;
 mod divisors;
 pub mod laws;
 mod permission;
@@ -15,6 +16,7 @@ mod searching;
 pub mod stepping;
 mod steps;
 
+pub use dividing::divides_exactly;
 pub use dz_diff::State;
 use dz_rank::Operator;
 pub use stepping::StepStop;
