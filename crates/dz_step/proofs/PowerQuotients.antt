@@ -31,10 +31,12 @@ use Rattle.dz_step.specs.Division.{least_exponent, divisor_power, with_exponent,
 
 -- ---- the least exponent
 module _ {S : Type 0} (cmp : S → S → Ordering) (v : S) where
+  -- no exponent is less than zero
   least_zero : (p : Polynomial S) → least_exponent cmp v 0 p ≡ 0
   least_zero [] = refl
   least_zero (t ∷ p) = ap (λ k. least_exponent cmp v k p) (let e : min 0 (exponent cmp v t.0) ≡ 0 = omega arith in e) ∙ least_zero p
 
+  -- the least exponent is no greater
   least_most : (k : ℕ) (p : Polynomial S) → least_exponent cmp v k p ≤ k
   least_most k [] = omega arith
   least_most k (t ∷ p) = let h = least_most (min k (exponent cmp v t.0)) p in omega (arith, h)
@@ -53,6 +55,7 @@ module _ {S : Type 0} (cmp : S → S → Ordering) (v : S) where
       at (t ∷ p) zero l e = ap (λ x. x ∷ p) (sym e)
       at (t ∷ p) (suc i) l e = at p i (omega arith) e
 
+  -- nothing is left past the end
   drop_end : (p : Polynomial S) (i : ℕ) → length p ≤ i → drop i p ≡ []
   drop_end [] zero l = refl
   drop_end [] (suc i) l = refl
@@ -76,14 +79,17 @@ module _ {S : Type 0} (cmp : S → S → Ordering) (v : S) where
   IsLow k [] = Unit {0}
   IsLow k (t ∷ p) = (k ≤ exponent cmp v t.0) × IsLow k p
 
+  -- no exponent is less than the least
   least_low : (k : ℕ) (p : Polynomial S) → IsLow (least_exponent cmp v k p) p
   least_low k [] = tt
   least_low k (t ∷ p) = let h = least_most (min k (exponent cmp v t.0)) p in (omega (arith, h), least_low (min k (exponent cmp v t.0)) p)
 
+  -- nor than the power that divides
   power_low : (p : Polynomial S) → IsLow (divisor_power cmp v p) p
   power_low [] = tt
   power_low (t ∷ p) = (least_most (exponent cmp v t.0) p, least_low (exponent cmp v t.0) p)
 
+  -- so it is at a place
   low_at : (k : ℕ) (p : Polynomial S) (i : ℕ) (d : Monomial S × ℤ) → i < length p → d ≡ get_or p i d → IsLow k p → k ≤ exponent cmp v d.0
   low_at k [] i d l e h = absurd (omega arith)
   low_at k (t ∷ p) zero d l e h = subst (λ (x : Monomial S × ℤ). k ≤ exponent cmp v x.0) (sym e) h.0
@@ -93,10 +99,12 @@ module _ {S : Type 0} (cmp : S → S → Ordering) (v : S) where
   pub power_at : (k : ℕ) (p : Polynomial S) (i : ℕ) (d : Monomial S × ℤ) → k ≡ divisor_power cmp v p → i < length p → d ≡ get_or p i d → k ≤ exponent cmp v d.0
   power_at k p i d e l is = low_at k p i d l is (subst (λ n. IsLow n p) (sym e) (power_low p))
 
+  -- the terms of two lists
   divided-append : (k : ℕ) (p q : Polynomial S) → divided_by cmp v k (p ++ q) ≡ divided_by cmp v k p ++ divided_by cmp v k q
   divided-append k [] q = refl
   divided-append k (t ∷ p) q = ap (λ l. (with_exponent cmp v (exponent cmp v t.0 - k) (without cmp v t.0), t.1) ∷ l) (divided-append k p q)
 
+  -- a list of terms up to one of them
   take_here : (p : Polynomial S) (i : ℕ) (d : Monomial S × ℤ) → i < length p → d ≡ get_or p i d → take (i + 1) p ≡ take i p ++ d ∷ []
   take_here p i d l e = rw add-one (at p i l e)
     where
@@ -123,13 +131,16 @@ module _ {S : Type 0} {cmp : S → S → Ordering} (order : IsOrder cmp) (v : S)
   abbrev lowered : ℕ → Monomial S → Monomial S
   lowered k m = with_exponent cmp v (exponent cmp v m - k) (without cmp v m)
 
+  -- a power keeps monomials
   with_exponent_is : (e : ℕ) (m : Monomial S) → IsMonomial cmp m → IsMonomial cmp (with_exponent cmp v e m)
   with_exponent_is zero m h = h
   with_exponent_is (suc e) m h = with_power_is order v (suc e) m (omega arith) h
 
+  -- so does its division
   lowered_is : (k : ℕ) (m : Monomial S) → IsMonomial cmp m → IsMonomial cmp (lowered k m)
   lowered_is k m h = with_exponent_is (exponent cmp v m - k) (without cmp v m) (without_is order v m h)
 
+  -- the exponents of a monomial times a power
   exponent_with : (u : S) (e : ℕ) (m : Monomial S) → exponent cmp u (with_exponent cmp v e m) ≡ match_ordering (cmp u v) 0 e 0 + exponent cmp u m
   exponent_with u zero m = elim (cmp u v) as (λ o. exponent cmp u m ≡ match_ordering o 0 0 0 + exponent cmp u m) [ Less ↦ omega arith | Equal ↦ omega arith | Greater ↦ omega arith ]
   exponent_with u (suc e) m = exponent_with_power order u v (suc e) m
@@ -160,6 +171,7 @@ module _ {S : Type 0} {cmp : S → S → Ordering} (order : IsOrder cmp) (v : S)
       at : (u : S) → exponent cmp u (with_exponent cmp v k (lowered k m)) ≡ exponent cmp u m
       at u = by_order u (cmp u v) refl (exponent_with u k (lowered k m)) (exponent_with u (exponent cmp v m - k) (without cmp v m))
 
+  -- a power keeps their order
   with_exponent_order : (k : ℕ) (m n : Monomial S) → IsMonomial cmp m → IsMonomial cmp n → monomial_cmp cmp (with_exponent cmp v k m) (with_exponent cmp v k n) ≡ monomial_cmp cmp m n
   with_exponent_order zero m n h i = refl
   with_exponent_order (suc k) m n h i = power_keeps_order order v (suc k) (omega arith) m n h i
@@ -193,32 +205,39 @@ module _ {S : Type 0} {cmp : S → S → Ordering} (order : IsOrder cmp) (v : S)
       above m [] i g a x y = tt
       above m (u ∷ p) i g a x y = (lowered_order k m u.0 i g.1 x y.0 ∙ a.0, above m p i g.3 a.1 x y.1)
 
+  -- no exponent is raised
   divided_exponents : (u : S) (k : ℕ) (p : Polynomial S) → greatest_exponent cmp u (divided_by cmp v k p) ≤ greatest_exponent cmp u p
   divided_exponents u k [] = omega arith
   divided_exponents u k (t ∷ p) = let h = divided_exponents u k p in let g = lowered_exponent u k t.0 in omega (arith, h, g)
 
+  -- no symbol is new
   divided_in : (P : S → Type 0) (k : ℕ) (p : Polynomial S) → PolynomialIn P p → PolynomialIn P (divided_by cmp v k p)
   divided_in P k [] h = tt
   divided_in P k (t ∷ p) h = (lowered_in P k t.0 h.0, divided_in P k p h.1)
 
+  -- there are as many terms
   divided_length : (k : ℕ) (p : Polynomial S) → length (divided_by cmp v k p) ≡ length p
   divided_length k [] = refl
   divided_length k (t ∷ p) = ap suc (divided_length k p)
 
+  -- a coefficient is in range
   abbrev IsInRange : Monomial S × ℤ → Type 0
   IsInRange t = unsigned_abs t.1 ≤ greatest
 
+  -- the coefficients stay in range
   divided_in_range : (k : ℕ) (p : Polynomial S) → All IsInRange p → All IsInRange (divided_by cmp v k p)
   divided_in_range k [] h = All-nil {X = Monomial S × ℤ} IsInRange
   divided_in_range k (t ∷ p) h =
       let first : unsigned_abs t.1 ≤ greatest = All-head {X = Monomial S × ℤ} IsInRange t p h in
       All-cons {X = Monomial S × ℤ} IsInRange (lowered k t.0, t.1) (divided_by cmp v k p) first (divided_in_range k p (All-tail {X = Monomial S × ℤ} IsInRange t p h))
 
+  -- the terms that are divided are the quotient
   quotient_is : (k : ℕ) (p : Polynomial S) → IsPolynomial cmp p → k ≡ divisor_power cmp v p → quotient_by cmp v p ≡ divided_by cmp v k p
   quotient_is k p h e =
       collected order (divided_by cmp v (divisor_power cmp v p) p) (divided_is (divisor_power cmp v p) p h (power_low cmp v p))
       ∙ ap (λ k. divided_by cmp v k p) (sym e)
 
+  -- the 0-th power changes nothing
   divided_zero : (p : Polynomial S) → IsPolynomial cmp p → divided_by cmp v 0 p ≡ p
   divided_zero [] h = refl
   divided_zero (t ∷ p) h = ap₂ (λ m q. (m, t.1) ∷ q) (put_back 0 t.0 h.1 (omega arith)) (divided_zero p h.3)
