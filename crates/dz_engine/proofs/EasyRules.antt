@@ -27,7 +27,7 @@ use Rattle.dz_step.specs.FullRun.{with_derivatives, derivatives_of, or_else}
 use Rattle.dz_tree.specs.declared.Rule.{Rule}
 use Rattle.dz_tree.specs.declared.Rule.TheVariants as rules
 use Rattle.dz_tree.specs.Fault.{Fault, refusal, rule}
-use Rattle.dz_tree.specs.Division.{is_divided, quotient_by}
+use Rattle.dz_step.specs.Division.{is_divided, quotient_by}
 use Rattle.dz_tree.specs.Moves.{Action, divide, split, factor, steps_of, Done, within, settled, with_equations, forked, divided_at, split_at, factored, perform}
 use Rattle.dz_tree.specs.Chain.{passes}
 use Rattle.dz_tree.specs.Lines.{act, closed, spent, open_separant, Entry}

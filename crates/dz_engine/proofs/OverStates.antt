@@ -31,7 +31,7 @@ use Rattle.dz_step.specs.Run.{Ran, run_from, run}
 use Rattle.dz_step.specs.Step.{multiplier_answer, step_in}
 use Rattle.dz_step.proofs.TakenSteps.{good_multiplier}
 use Rattle.dz_pair.specs.Pair.{delta_answer, is_pair}
-use Rattle.dz_tree.specs.Division.{divided_by, divisor_power, is_divided, least_exponent, quotient_by, with_exponent}
+use Rattle.dz_step.specs.Division.{divided_by, divisor_power, is_divided, least_exponent, quotient_by, with_exponent}
 use Rattle.dz_tree.specs.Fault.{refusal, run_fault}
 use Rattle.dz_tree.specs.Moves.{Action, Done, reduce, weed, add, divide, split, factor, divided_at, factored, forked, grown, perform, reduced, settled, split_at, weeded, with_equations, with_inequations, within}
 use Rattle.dz_tree.proofs.Quotients.{good_quotient}

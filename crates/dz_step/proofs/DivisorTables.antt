@@ -112,12 +112,15 @@ quotient_missing (Derivative u a) (Derivative w b) k g h = by_quotient (quotient
 
 -- ---- the step by the equation at a place
 module _ (r : RankingValue) (s : State) (role : Role) (f : Polynomial Symbol) (v : Symbol) (j : ℕ) (q : Polynomial Symbol) where
+  -- the step that the definition answers
   abbrev answer : Option Symbol → Option Step
   answer o = step_with (setting_of r) s role f v j q o
 
+  -- what is tested of an operator
   abbrev tests : Symbol → Operator → Bool
   tests l t = is_divisor role j && nat_le (step_degree (symbols_under r) t l q) (degree (ranking_cmp r) v f) && is_permitted (setting_of r) s role q l t
 
+  -- what is answered with an operator
   abbrev answer_by : Symbol → Option Operator → Option Step
   answer_by l o = elim o as (λ _. Option Step) [ None ↦ None | Some t ↦ cond (tests l t) (Some (record { place = j; operator = t })) None ]
 
@@ -135,6 +138,7 @@ module _ (r : RankingValue) (s : State) (role : Role) (f : Polynomial Symbol) (v
       by_leader (Some l) = by_quotient l (quotient v l)
 
   module _ (d : Divisor) (h : IsDivisorOf r (usable role s.inequations) q d) where
+    -- a divisor has its leader
     led : answer (leader (symbols_under r) q) ≡ answer_by d.lead (quotient v d.lead)
     led = ap answer h.leads
 
@@ -143,16 +147,20 @@ module _ (r : RankingValue) (s : State) (role : Role) (f : Polynomial Symbol) (v
     no_operator k n = sym (led ∙ ap (answer_by d.lead) (quotient_missing v d.lead k h.regular n))
 
     module _ (t : Operator) (four : length t.counts ≡ 4) (e : IsDerivativeBy t d.lead v) where
+      -- with an operator the tests decide
       with_operator : answer (leader (symbols_under r) q) ≡ cond (tests d.lead t) (Some (record { place = j; operator = t })) None
       with_operator = led ∙ ap (answer_by d.lead) (quotient_found v d.lead t four h.regular e)
 
+      -- where they fail there is none
       failed : tests d.lead t ≡ false → None ≡ answer (leader (symbols_under r) q)
       failed k = sym (with_operator ∙ ap (λ b. cond b (Some (record { place = j; operator = t })) None) k)
 
+      -- a conjunction fails with its second part
       second_false : (a b c : Bool) → b ≡ false → (a && b && c) ≡ false
       second_false true b c k = ap (λ b. b && c) k
       second_false false b c k = refl
 
+      -- and with its third
       third_false : (a b c : Bool) → c ≡ false → (a && b && c) ≡ false
       third_false true true c k = k
       third_false true false c k = refl

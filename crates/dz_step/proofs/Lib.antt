@@ -16,3 +16,4 @@ pub mod Regularity
 pub mod DivisorTables
 pub mod Searches
 pub mod Advances
+pub mod PowerQuotients

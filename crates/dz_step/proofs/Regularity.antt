@@ -13,6 +13,7 @@ use Rattle.dz_diff.proofs.LeaderBounds.{leader_regular}
 use Rattle.dz_diff.proofs.LeaderDerivations.{IsRegular}
 use Rattle.dz_diff.proofs.Overs.{regular_over}
 
+-- a regular symbol has four exponents
 has_four : (l : Symbol) → IsRegular 4 l → HasFourExponents l
 has_four (Independent j) h = tt
 has_four (Derivative u t) h = h

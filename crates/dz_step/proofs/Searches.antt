@@ -33,6 +33,7 @@ first_is : {A : Type 0} (o p : Option A) → is_some o ≡ true → or_else o p 
 first_is (Some x) p e = refl
 first_is None p e = cc
 
+-- where there is none it is the second
 second_is : {A : Type 0} (o p : Option A) → is_some o ≡ false → or_else o p ≡ p
 second_is (Some x) p e = cc
 second_is None p e = refl
@@ -46,6 +47,7 @@ drop_here {X} i xs d l = rw add-one (at i xs l)
     at zero (x ∷ xs) l = refl
     at (suc i) (x ∷ xs) l = at i xs (omega arith)
 
+-- nothing is left past the end
 drop_end : {X : Type 0} (i : ℕ) (xs : List X) → length xs ≤ i → drop i xs ≡ []
 drop_end zero [] l = refl
 drop_end zero (x ∷ xs) l = absurd (omega arith)
@@ -64,6 +66,7 @@ module _ (r : RankingValue) (s : State) (role : Role) (f : Polynomial Symbol) (v
     no_place l = sym (is ∙ ap (step_at (setting_of r) s role f v (suc i)) (drop_end i qs l))
 
     module _ (l : i < length qs) (o : Option Step) (found : o ≡ step_with (setting_of r) s role f v (suc i) (slice_index_or qs i []) (leader (symbols_under r) (slice_index_or qs i []))) where
+      -- what is found here, and later places
       here : whole ≡ or_else o (from_place (i + 1))
       here = is ∙ ap (step_at (setting_of r) s role f v (suc i)) (drop_here i qs [] l)
           ∙ ap₂ (λ o n. or_else o (step_at (setting_of r) s role f v (suc n) (drop (i + 1) qs))) (sym found) (let e : suc i ≡ i + 1 = omega arith in e)
@@ -88,16 +91,19 @@ abbrev pub derivatives_in : Monomial Symbol → List Symbol
 derivatives_in m = front (map (λ p. p.0) m)
 
 module _ (r : RankingValue) where
+  -- an independent is below a derivative
   below_derivative : (j u : ℕ) (s : Symbol) → is_derivative s ≡ true → ranking_cmp r (Independent j) s ≡ Less
   unfolding ranking_cmp
   below_derivative j u (Independent i) e = absurd cc
   below_derivative j u (Derivative w t) e = refl
 
+  -- a derivative is above an independent
   above_independent : (s : Symbol) (k : ℕ) → is_derivative s ≡ true → ranking_cmp r s (Independent k) ≡ Greater
   unfolding ranking_cmp
   above_independent (Independent i) k e = absurd cc
   above_independent (Derivative w t) k e = refl
 
+  -- the order of symbols
   abbrev cmp : Symbol → Symbol → Ordering
   cmp = ranking_cmp r
 
@@ -117,10 +123,12 @@ module _ (r : RankingValue) where
         | Greater ↦ refl
       ]
 
+  -- all symbols of a monomial more
   front_monomial : (m : Monomial Symbol) (ss : List Symbol) → with_derivatives (symbols_under r) m (front ss) ≡ front (with_symbols (ranking_cmp r) m ss)
   front_monomial [] ss = refl
   front_monomial (p ∷ m) ss = ap (λ l. cond (is_derivative p.0) (with_symbol cmp p.0 l) l) (front_monomial m ss) ∙ sym (front_with p.0 (with_symbols (ranking_cmp r) m ss))
 
+  -- all symbols of a polynomial
   front_polynomial : (p : Polynomial Symbol) → derivatives_of (symbols_under r) p ≡ front (symbols (ranking_cmp r) (map (λ t. t.0) p))
   front_polynomial [] = refl
   front_polynomial (t ∷ p) = ap (with_derivatives (symbols_under r) t.0) (front_polynomial p) ∙ front_monomial t.0 (symbols (ranking_cmp r) (map (λ t. t.0) p))
@@ -131,11 +139,13 @@ module _ (r : RankingValue) where
 
   -- ---- a power of the table
   module _ (p : Polynomial Symbol) (table : Monomial Symbol) (h : IsEntry r p table) (i : ℕ) (d : Symbol × ℕ) (l : i < length table) where
+    -- a symbol above a table is above each of its symbols
     apart : (s : Symbol) (m : Monomial Symbol) (i : ℕ) → i < length m → IsAbove cmp s m → cmp s (slice_index_or m i d).0 ≡ Greater
     apart s [] i l a = absurd (omega arith)
     apart s (q ∷ m) zero l a = a.0
     apart s (q ∷ m) (suc i) l a = apart s m i (omega arith) a.1
 
+    -- the exponent of a symbol of a table stands there
     here_is : (m : Monomial Symbol) (i : ℕ) → i < length m → IsMonomial cmp m → exponent cmp (slice_index_or m i d).0 m ≡ (slice_index_or m i d).1
     here_is [] i l a = absurd (omega arith)
     here_is (q ∷ m) zero l a =
@@ -186,10 +196,12 @@ module _ (r : RankingValue) (s : State) (role : Role) (f : Polynomial Symbol) (t
       no_derivative j e = sym (is ∙ ap (λ m. first_step (setting_of r) s role f (derivatives_in m)) (drop_here i table d l) ∙ ap (λ v. first_step (setting_of r) s role f (front (v ∷ map (λ p. p.0) (drop (i + 1) table)))) e)
 
       module _ (n : (j : ℕ) → (slice_index_or table i d).0 ≡ Independent j → ⊥) (o : Option Step) (found : o ≡ step_at (setting_of r) s role f (slice_index_or table i d).0 1 s.equations) where
+        -- a derivative stands in front
         front_is : (v : Symbol) (vs : List Symbol) → ((j : ℕ) → v ≡ Independent j → ⊥) → front (v ∷ vs) ≡ v ∷ front vs
         front_is (Independent j) vs n = absurd (n j refl)
         front_is (Derivative u t) vs n = refl
 
+        -- what is found at this symbol, and later symbols
         at_symbol : whole ≡ or_else o (from_symbol (i + 1))
         at_symbol = is ∙ ap (λ m. first_step (setting_of r) s role f (derivatives_in m)) (drop_here i table d l)
             ∙ ap (first_step (setting_of r) s role f) (front_is (slice_index_or table i d).0 (map (λ p. p.0) (drop (i + 1) table)) n)

@@ -8,3 +8,4 @@ pub mod Attempts
 pub mod Replays
 pub mod Turns
 pub mod Divisors
+pub mod Division

@@ -1,13 +1,15 @@
 //! Steps of Ritt's reduction, runs of them, and full runs.
 //!
-//! There are permission of multipliers, one step, and replays of runs. Of full runs there are so far the
-//! definitions in `specs/` and the laws in `laws`.
+//! [`permitted`] tells which multipliers a state permits, `stepping::step` takes one step,
+//! [`replay`] a run that is handed in, and [`reduce_fully`] the one full run. The laws of runs stand
+//! in `laws`.
 #![tactic(auto)]
 
 ghost use Rattle.std.specs.Prelude.{◌≡◌};
 ghost use Rattle.dz_rank.specs.Symbols.{identity};
 
 mod attempts;
+mod dividing;
 mod divisors;
 pub mod laws;
 mod permission;
@@ -18,6 +20,7 @@ pub mod stepping;
 mod steps;
 
 pub use attempts::{Attempt, AttemptStop, reduce_fully};
+pub use dividing::divides_exactly;
 pub use dz_diff::State;
 use dz_rank::Operator;
 pub use permission::permitted;

@@ -77,7 +77,7 @@ module _ {S : Type 0} {cmp : S → S → Ordering} (order : IsOrder cmp) (s : S)
   above_put e (p ∷ m) h = ap (λ o. match_ordering o (p ∷ with_power cmp s e m) ((p.0, e + p.1) ∷ m) ((s, e) ∷ p ∷ m)) h.0
 
   -- another exponent is that power of s on the monomial without it
-  exponent_changed : (e : ℕ) (m : Monomial S) → IsMonomial cmp m → 0 < exponent cmp s m → with_exponent cmp s (suc e) m ≡ with_power cmp s (suc e) (without cmp s m)
+  pub exponent_changed : (e : ℕ) (m : Monomial S) → IsMonomial cmp m → 0 < exponent cmp s m → with_exponent cmp s (suc e) m ≡ with_power cmp s (suc e) (without cmp s m)
   exponent_changed e [] h l = absurd (omega (arith, l))
   exponent_changed e (p ∷ m) h l = by_order (cmp s p.0) refl (exponent_changed e m h.2)
     where
@@ -191,7 +191,7 @@ module _ {S : Type 0} {cmp : S → S → Ordering} (order : IsOrder cmp) (s : S)
       above m (u ∷ p) i g a = (power_keeps_order order s (suc e) (omega arith) m u.0 i g.1 ∙ a.0, above m p i g.3 a.1)
 
   -- the exponents of a monomial whose exponent of s is lowered
-  lower_part : (u : S) (e : ℕ) (m : Monomial S) → e ≤ exponent cmp s m → exponent cmp u (with_power cmp s e (without cmp s m)) ≤ exponent cmp u m
+  pub lower_part : (u : S) (e : ℕ) (m : Monomial S) → e ≤ exponent cmp s m → exponent cmp u (with_power cmp s e (without cmp s m)) ≤ exponent cmp u m
   lower_part u e m l = by_order (cmp u s) refl
     where
       whole : exponent cmp u (with_power cmp s e (without cmp s m)) ≡ match_ordering (cmp u s) 0 e 0 + exponent cmp u (without cmp s m)
@@ -210,7 +210,7 @@ module _ {S : Type 0} {cmp : S → S → Ordering} (order : IsOrder cmp) (s : S)
           let c : exponent cmp u m ≡ exponent cmp s m = ap (λ x. exponent cmp x m) k in
           omega (arith, a, b, c, l)
 
-  lower_without : (u : S) (m : Monomial S) → exponent cmp u (without cmp s m) ≤ exponent cmp u m
+  pub lower_without : (u : S) (m : Monomial S) → exponent cmp u (without cmp s m) ≤ exponent cmp u m
   lower_without u m = by_order (cmp s u) refl
     where
       by_order : (o : Ordering) → cmp s u ≡ o → exponent cmp u (without cmp s m) ≤ exponent cmp u m

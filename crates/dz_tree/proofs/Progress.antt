@@ -14,7 +14,7 @@ use Rattle.dz_step.specs.Run.{run}
 use Rattle.dz_step.specs.FullRun.{admits}
 use Rattle.dz_pair.specs.Pair.{is_pair, delta_answer}
 use Rattle.dz_tree.specs.Fault.{refusal, run_fault}
-use Rattle.dz_tree.specs.Division.{is_divided, quotient_by}
+use Rattle.dz_step.specs.Division.{is_divided, quotient_by}
 use Rattle.dz_tree.specs.Moves.{Action, reduce, weed, add, divide, split, factor, is_fork, Done, within, settled, moved, with_equations, forked, reduced, weeded, grown, divided_at, split_at, factored, perform}
 
 -- so many states, and a weight

@@ -1,5 +1,4 @@
 pub mod Fault
-pub mod Division
 pub mod Moves
 pub mod Chain
 pub mod Lines

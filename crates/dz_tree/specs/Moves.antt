@@ -19,7 +19,7 @@ use Rattle.dz_step.specs.FullRun.{admits}
 use Rattle.dz_pair.specs.Pair.{is_pair, delta_answer}
 use Rattle.dz_tree.specs.declared.Rule.TheVariants as rules
 use Rattle.dz_tree.specs.Fault.{Fault, refusal, rule, run_fault}
-use Rattle.dz_tree.specs.Division.{quotient_by, is_divided}
+use Rattle.dz_step.specs.Division.{quotient_by, is_divided}
 
 -- What a move or a fork names. Moves: reduce an equation, weed out an inequation, add the end of a run from a
 -- Delta-polynomial, divide an equation by a symbol. Forks: split on an initial or separant, factor a symbol out.

@@ -32,7 +32,7 @@ use Rattle.dz_step.proofs.TakenSteps.{good_multiplier}
 use Rattle.dz_pair.specs.Pair.{is_pair, delta_answer}
 use Rattle.dz_pair.proofs.DeltaParts.{delta_parts, good_rest, good_delta}
 use Rattle.dz_tree.specs.Fault.{refusal, run_fault}
-use Rattle.dz_tree.specs.Division.{divisor_power, quotient_by, is_divided}
+use Rattle.dz_step.specs.Division.{divisor_power, quotient_by, is_divided}
 use Rattle.dz_tree.specs.Moves.{Action, reduce, weed, add, divide, split, factor, Done, within, settled, with_equations, with_inequations, forked, moved, reduced, weeded, grown, divided_at, split_at, factored, perform}
 use Rattle.dz_tree.proofs.Quotients.{good_quotient}
 use Rattle.dz_zeros.proofs.Meaning.{Meaning, Vanishes, Differs, val, value_difference, vanishes_product, vanishes_operator, norm_vanishes, unit_nonzero, value_quotient, value_symbol, power_zero, one_nonzero}

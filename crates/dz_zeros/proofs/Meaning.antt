@@ -25,7 +25,7 @@ use Rattle.dz_diff.specs.Operations.{iterated_answer, derivations_answer, operat
 use Rattle.dz_diff.specs.Tests.{is_unit}
 use Rattle.dz_diff.proofs.Answers.{bind_ok, both}
 use Rattle.dz_diff.proofs.Goodness.{Good, InRange}
-use Rattle.dz_tree.specs.Division.{least_exponent, divisor_power, with_exponent, divided_by, quotient_by}
+use Rattle.dz_step.specs.Division.{least_exponent, divisor_power, with_exponent, divided_by, quotient_by}
 
 -- what a point of a domain gives: values of symbols in a ring in which polynomials vanish as they should
 pub record Meaning (r : RankingValue) (R : Type 0) : Type 0 where
