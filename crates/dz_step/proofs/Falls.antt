@@ -1,16 +1,14 @@
 -- Steps lower degrees, so a run of some steps never ends where it began.
 use Rattle.std.specs.Prelude.{is_some, sum, not, nat_le, take}
-use Rattle.std.proofs.Common.{◌≡◌, ◌≢◌, ℕ, zero, suc, ◌+◌, ◌==◌, ◌≤◌, ◌<◌, Bool, true, false, cond, List, [], ◌∷◌, length, refl, sym, ap, ap₂, ◌∙◌, arith, subst, Result, Ok, Err, Option, Some, None}
+use Rattle.std.proofs.Common.{◌≡◌, ◌≢◌, ℕ, zero, suc, ◌+◌, ◌==◌, ◌≤◌, Bool, true, false, cond, List, [], ◌∷◌, length, refl, sym, ap, ap₂, ◌∙◌, arith, subst, Result, Ok, Err, Option, Some, None}
 use Rattle.std.proofs.lemmas.List.Sums.{sum_by-cons}
 use Rattle.std.proofs.lemmas.Bool.{leb-true, eqb-true}
 use Rattle.std.specs.declared.cmp.Ordering.{Ordering}
 use Rattle.std.specs.declared.cmp.Ordering.TheVariants.{Less, Equal, Greater}
-use Rattle.std.specs.Ordering.{match_ordering}
-use Rattle.std.specs.Cmp.{tied_itself}
 use Rattle.dz_algebra.specs.Order.{IsOrder}
 use Rattle.dz_algebra.specs.Symbols.{Symbols}
-use Rattle.dz_algebra.specs.Monomial.{Monomial, IsMonomial, MonomialIn, monomial_cmp, exponent, without}
-use Rattle.dz_algebra.specs.Polynomial.{Polynomial, Contributions, AreMonomials, IsPolynomial, PolynomialIn, collect}
+use Rattle.dz_algebra.specs.Monomial.{IsMonomial, monomial_cmp, exponent, without}
+use Rattle.dz_algebra.specs.Polynomial.{Polynomial, Contributions, IsPolynomial, PolynomialIn, collect}
 use Rattle.dz_algebra.specs.Norm.{norm}
 use Rattle.dz_algebra.specs.Parts.{coefficient_of, degree, leader}
 use Rattle.dz_algebra.proofs.Canonical.{are_monomials}

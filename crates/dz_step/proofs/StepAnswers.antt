@@ -1,6 +1,6 @@
 -- What a step answers, from its parts.
 use Rattle.std.specs.Prelude.{sum, not, take, nat_le}
-use Rattle.std.proofs.Common.{◌≡◌, ◌<◌, ◌≤◌, ◌+◌, ◌==◌, ◌∙◌, ◌⊎◌, inl, inr, ℕ, zero, suc, Bool, true, false, cond, List, [], ◌∷◌, refl, sym, ap, ap₂, subst, arith, Result, Ok, Err, Option, Some, None}
+use Rattle.std.proofs.Common.{◌≡◌, ◌<◌, ◌≤◌, ◌==◌, ◌∙◌, inl, inr, ℕ, zero, suc, Bool, true, false, cond, List, [], ◌∷◌, refl, sym, ap, subst, arith, Result, Ok, Err, Option, Some, None}
 use Rattle.std.proofs.lemmas.Bool.{le-leb, eqb-true}
 use Rattle.std.proofs.lemmas.Bool.Decides.{nat_tests}
 use Rattle.std.proofs.lemmas.List.Sums.{sum_by-cons}
@@ -27,9 +27,8 @@ use Rattle.dz_diff.specs.Operations.{iterated_answer, derivations_answer, operat
 use Rattle.dz_diff.proofs.LeaderBounds.{leader_degree}
 use Rattle.dz_step.specs.declared.Which.TheVariants.{Initial, Separant}
 use Rattle.dz_step.specs.declared.stepping.StepStop.{StepStop}
-use Rattle.dz_step.specs.declared.stepping.StepStop.TheVariants.{Memory, Wide, Large, NotStep}
 use Rattle.dz_step.specs.Step.{Stop, refused, no_step, multiplier_answer, multiplier_of, step_degree, step_by, step_answer}
-use Rattle.dz_step.specs.StepStops.{stop_of, IsStepStop, step_stop}
+use Rattle.dz_step.specs.StepStops.{IsStepStop, step_stop}
 
 -- ---- stops
 -- a refusal of an operation is one of its step

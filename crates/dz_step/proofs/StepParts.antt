@@ -1,16 +1,13 @@
 -- What the parts of a step answer is what the step does.
-use Rattle.std.proofs.Common.{◌≡◌, ◌≢◌, ◌<◌, ◌≤◌, ◌-◌, ◌∙◌, ◌++◌, ◌⊎◌, inl, inr, ℕ, zero, suc, [], ◌∷◌, ℤ, pos, int_div, unsigned_abs, refl, sym, ap, ap₂, subst, arith, Result, Ok, Err, Option, Some, None}
-use Rattle.std.specs.Prelude.{All}
+use Rattle.std.proofs.Common.{◌≡◌, ◌≢◌, ◌<◌, ◌≤◌, ◌-◌, ◌∙◌, ◌++◌, inl, inr, ℕ, zero, suc, [], ◌∷◌, ℤ, pos, int_div, unsigned_abs, refl, sym, ap, ap₂, subst, arith, Result, Ok, Err, Option, Some, None}
 use Rattle.std.specs.Int.{◌∣◌}
 use Rattle.std.proofs.lemmas.List.Elements.{All-nil, All-cons}
-use Rattle.std.proofs.lemmas.Nat.Gcd.{dvd_trans}
 use Rattle.std.proofs.Math.Nat.{eq-zero_of_zero-dvd}
 use Rattle.dz_algebra.specs.Monomial.{with_power}
 use Rattle.dz_algebra.specs.Norm.{gcd, content, divided, norm}
 use Rattle.dz_algebra.specs.Parts.{degree, coefficient_of}
 use Rattle.dz_algebra.specs.Polynomial.{Polynomial, IsPolynomial, pairs}
 use Rattle.dz_algebra.specs.Size.{Refusal, wide, large, operation, product_answer, difference_answer}
-use Rattle.dz_algebra.specs.Symbols.{Symbols}
 use Rattle.dz_algebra.proofs.Coefficients.{coefficient_of_is, initial_not_zero}
 use Rattle.dz_algebra.proofs.Divisors.{gcd_is}
 use Rattle.dz_algebra.proofs.Norms.{Divides, divides_more, content_divides, content_positive}
@@ -19,7 +16,7 @@ use Rattle.dz_rank.specs.Rankings.{RankingValue, ranking_cmp}
 use Rattle.dz_terms.specs.Divisions.{DividesAll}
 use Rattle.dz_terms.specs.Ranked.{symbols_under}
 use Rattle.dz_terms.specs.Signs.{with_sign}
-use Rattle.dz_terms.specs.Stops.{IsStop, refusal_of}
+use Rattle.dz_terms.specs.Stops.{IsStop}
 use Rattle.dz_terms.specs.Terms.{times_power}
 use Rattle.dz_terms.specs.declared.PolyStop.{PolyStop}
 use Rattle.dz_terms.specs.declared.sums.Sign.TheVariants.{Minus}

@@ -1,9 +1,8 @@
-use Rattle.std.proofs.Common.{◌≡◌, ◌-◌, ◌∙◌, pos, ap, ap₂, sym, subst, refl}
+use Rattle.std.proofs.Common.{◌≡◌, ◌-◌, ◌∙◌, ap, ap₂}
 use Rattle.std.proofs.lemmas.Result.{err_from_is_err_and}
 use Rattle.dz_algebra.specs.Norm.{content, gcd}
 use Rattle.dz_algebra.specs.Parts.{coefficient_of, degree}
 use Rattle.dz_rank.specs.Rankings.{ranking_cmp}
-use Rattle.dz_terms.specs.Divisions.{DividesAll}
 use Rattle.dz_terms.specs.Terms.{times_power}
 use Rattle.dz_step.proofs.StepParts.{at_least_one, divides_first, divides_second, left_refused, right_refused, rest_refused, result_is}
 use Rattle.dz_step.proofs.reducing.reduced.Goals as goal

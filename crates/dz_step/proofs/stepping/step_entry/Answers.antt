@@ -1,7 +1,5 @@
-use Rattle.std.proofs.Common.{◌≡◌, ◌∙◌, inr, sym, subst, Some, ap, refl}
-use Rattle.std.specs.Prelude.{IsTrue}
+use Rattle.std.proofs.Common.{◌≡◌, ◌∙◌, inr, sym, Some, ap}
 use Rattle.dz_algebra.specs.Parts.{leader}
-use Rattle.dz_rank.specs.Symbols.{is_derivative}
 use Rattle.dz_terms.specs.Ranked.{symbols_under}
 use Rattle.dz_diff.proofs.LeaderBounds.{leader_is_one}
 use Rattle.dz_step.specs.StepStops.{stop_of}
