@@ -11,7 +11,7 @@ use dz_diff::leader;
 use dz_form::{read_poly, write_poly};
 use dz_poly::{Book, Poly, term_count};
 use dz_rank::Operator;
-use dz_step::{ReplayFault, Role, State, Step, StepList, replay};
+use dz_step::{ReplayFault, Role, State, Step, StepList, permitted, replay};
 use dz_syntax::Names;
 use dz_terms::{copied, into_norm, same_terms};
 use std::alloc::{AllocError, Global};
@@ -161,4 +161,35 @@ fn a_step_needs_permission(rt: HostRuntime) -> Result<(), Fail> {
     let left_out = replayed(alloc, &names, true, &steps, Role::Inequation(1));
     assert!(rt; matches!(left_out, Some(Err(ReplayFault::NotStep(1)))));
     Ok(())
+}
+
+/// Whether the multiplier of the step at a place with so many derivations is permitted, where the
+/// equation is `u[x]^2 - 4*u`, and the inequation, if it is there, is `u[x]`.
+fn permits(alloc: Global, names: &Names, is_there: bool, place: u16, order: u8) -> Option<bool>
+    requires { signature_of names.now ≡ record { independents = 2; dependents = 2 } }
+{
+    let mut book = book(alloc).ok()?;
+    let equation = read_poly(alloc, &mut book, names, b"u[x]^2 - 4*u").ok()?;
+    let inequation = read_poly(alloc, &mut book, names, b"u[x]").ok()?;
+    let state = state(alloc, &book, equation, inequation, is_there)?;
+    permitted(
+        &book,
+        &state,
+        Role::Free,
+        place,
+        step(place, order).operator,
+    )
+    .ok()
+}
+
+#[test]
+fn a_separant_is_permitted_by_its_norm(rt: HostRuntime) {
+    let alloc = rt.alloc();
+    let Some(names) = names(alloc) else {
+        panic!(rt; "no names");
+    };
+    assert!(rt; permits(alloc, &names, true, 1, 1) == Some(true));
+    assert!(rt; permits(alloc, &names, false, 1, 1) == Some(false));
+    assert!(rt; permits(alloc, &names, false, 1, 0) == Some(true));
+    assert!(rt; permits(alloc, &names, true, 2, 1) == Some(false));
 }
