@@ -1,13 +1,22 @@
-// Lists of steps, and divisions by powers of symbols.
-ghost use Rattle.std.specs.Prelude.{◌≡◌};
+// Lists of steps, divisions by powers of symbols, and runs on polynomials that are read from texts.
+ghost use Rattle.std.specs.Prelude.{◌≡◌, IfOk, IfSome, IsTrue};
+ghost use Rattle.dz_algebra.specs.Norm.{norm};
+ghost use Rattle.dz_poly.specs.Books.{Lives, polynomial};
+ghost use Rattle.dz_rows.specs.Members.{AreMembers};
 ghost use Rattle.dz_syntax.specs.Names.{signature_of};
+ghost use Rattle.dz_diff.specs.States.{StandsIn};
 
 use crate::forms::{book, names};
+use dz_diff::leader;
 use dz_form::{read_poly, read_symbol, write_poly};
+use dz_poly::{Book, Poly, term_count};
 use dz_rank::Operator;
-use dz_step::{Step, StepList, divides_exactly};
+use dz_step::{
+    ReplayFault, Role, State, Step, StepList, divides_exactly, permitted, replay,
+};
 use dz_syntax::Names;
-use std::alloc::Global;
+use dz_terms::{copied, into_norm, same_terms};
+use std::alloc::{AllocError, Global};
 use std::test::Fail;
 
 /// Texts of a polynomial and of a symbol, the greatest power of it that divides, and the quotient.
@@ -71,4 +80,154 @@ fn steps_stay_in_their_order(rt: HostRuntime) -> Result<(), Fail> {
         assert!(rt; steps.get(11) == step(6, 1));
     }
     Ok(())
+}
+
+/// Whether a polynomial is its own norm.
+fn is_norm(alloc: Global, book: &Book, p: Poly) -> Result<bool, AllocError>
+    requires { Lives book.now p }
+    ensures { IfOk result (λ b. IsTrue b → norm (polynomial book.now p) ≡ polynomial book.now p) }
+{
+    let entry = book.entry(p);
+    let norm = into_norm(copied(alloc, entry)?);
+    Ok(same_terms(
+        book.ranking(),
+        norm.terms.as_slice(),
+        entry.terms.as_slice(),
+    ))
+}
+
+/// The list of this member, if it is there.
+fn members(alloc: Global, book: &Book, p: Poly, is_there: bool) -> Option<Vec<Poly>>
+    requires { Lives book.now p }
+    ensures { IfSome result (λ all. AreMembers book.now all.items) }
+{
+    let mut all = Vec::new(alloc);
+    if !is_there {
+        return Some(all);
+    }
+    let Some(_) = leader(book, p) else {
+        return None;
+    };
+    if term_count(book, p) > 100 {
+        return None;
+    }
+    let Ok(true) = is_norm(alloc, book, p) else {
+        return None;
+    };
+    let Ok(()) = all.push(p) else {
+        return None;
+    };
+    Some(all)
+}
+
+/// The state of one equation, and one inequation if it is there.
+fn state(
+    alloc: Global,
+    book: &Book,
+    equation: Poly,
+    inequation: Poly,
+    is_there: bool,
+) -> Option<State>
+    requires equation { Lives book.now equation }
+    requires inequation { Lives book.now inequation }
+    ensures { IfSome result (λ state. StandsIn book.now state) }
+{
+    let equations = members(alloc, book, equation, true)?;
+    let inequations = members(alloc, book, inequation, is_there)?;
+    Some(State::new(book, equations, inequations, 0))
+}
+
+/// What a replay answers, with the text of the end.
+fn end_text(
+    alloc: Global,
+    book: &mut Book,
+    names: &Names,
+    f: Poly,
+    steps: &StepList,
+    state: &State,
+    role: Role,
+) -> Option<Result<Vec<u8>, ReplayFault>>
+    requires signature { signature_of names.now ≡ book.old.ranking.signature }
+    requires f { Lives book.old f }
+    requires state { StandsIn book.old state.now }
+{
+    match replay(book, f, steps, state, role) {
+        Ok(end) => {
+            let mut written = Vec::new(alloc);
+            write_poly(book, end, names, &mut written).ok()?;
+            Some(Ok(written))
+        }
+        Err(fault) => Some(Err(fault)),
+    }
+}
+
+/// What a replay of these steps on `u[x,x] - 2` answers, with the text of the end. The equation is
+/// `u[x]^2 - 4*u`, and the inequation, if it is there, is `u[x]`.
+fn replayed(
+    alloc: Global,
+    names: &Names,
+    is_there: bool,
+    steps: &StepList,
+    role: Role,
+) -> Option<Result<Vec<u8>, ReplayFault>>
+    requires { signature_of names.now ≡ record { independents = 2; dependents = 2 } }
+{
+    let mut book = book(alloc).ok()?;
+    let equation = read_poly(alloc, &mut book, names, b"u[x]^2 - 4*u").ok()?;
+    let inequation = read_poly(alloc, &mut book, names, b"u[x]").ok()?;
+    let f = read_poly(alloc, &mut book, names, b"u[x,x] - 2").ok()?;
+    let state = state(alloc, &book, equation, inequation, is_there)?;
+    end_text(alloc, &mut book, names, f, steps, &state, role)
+}
+
+#[test]
+fn a_step_needs_permission(rt: HostRuntime) -> Result<(), Fail> {
+    let alloc = rt.alloc();
+    let Some(names) = names(alloc) else {
+        panic!(rt; "no names");
+    };
+    let mut steps = StepList::new(alloc);
+    steps.push(step(1, 1))?;
+    let Some(Ok(end)) = replayed(alloc, &names, true, &steps, Role::Free) else {
+        panic!(rt; "no end");
+    };
+    assert!(rt; end.as_slice() == b"0".as_slice());
+    let refused = replayed(alloc, &names, false, &steps, Role::Free);
+    assert!(rt; matches!(refused, Some(Err(ReplayFault::NotStep(1)))));
+    let own = replayed(alloc, &names, true, &steps, Role::Equation(1));
+    assert!(rt; matches!(own, Some(Err(ReplayFault::NotStep(1)))));
+    let left_out = replayed(alloc, &names, true, &steps, Role::Inequation(1));
+    assert!(rt; matches!(left_out, Some(Err(ReplayFault::NotStep(1)))));
+    Ok(())
+}
+
+/// Whether the multiplier of the step at a place with so many derivations is permitted, where the
+/// equation is `u[x]^2 - 4*u`, and the inequation, if it is there, is `u[x]`.
+fn permits(alloc: Global, names: &Names, is_there: bool, place: u16, order: u8) -> Option<bool>
+    requires { signature_of names.now ≡ record { independents = 2; dependents = 2 } }
+{
+    let mut book = book(alloc).ok()?;
+    let equation = read_poly(alloc, &mut book, names, b"u[x]^2 - 4*u").ok()?;
+    let inequation = read_poly(alloc, &mut book, names, b"u[x]").ok()?;
+    let state = state(alloc, &book, equation, inequation, is_there)?;
+    permitted(
+        &book,
+        &state,
+        Role::Free,
+        place,
+        step(place, order).operator,
+    )
+    .ok()
+}
+
+#[test]
+fn a_separant_is_permitted_by_its_norm(rt: HostRuntime) {
+    let alloc = rt.alloc();
+    let Some(names) = names(alloc) else {
+        panic!(rt; "no names");
+    };
+    assert!(rt; permits(alloc, &names, true, 1, 1) == Some(true));
+    assert!(rt; permits(alloc, &names, false, 1, 1) == Some(false));
+    assert!(rt; permits(alloc, &names, false, 1, 0) == Some(true));
+    assert!(rt; permits(alloc, &names, true, 2, 1) == Some(false));
 }

@@ -1,5 +1,5 @@
 -- What stands at a place, and the equation of a book that it is.
-use Rattle.std.proofs.Common.{◌≡◌, ◌≢◌, ◌<◌, ◌≤◌, ◌-◌, ◌∙◌, ℕ, zero, suc, false, List, [], ◌∷◌, length, refl, sym, ap, subst, arith, Option, Some, None}
+use Rattle.std.proofs.Common.{◌≡◌, ◌≢◌, ◌<◌, ◌≤◌, ◌-◌, ◌∙◌, ℕ, zero, suc, false, List, [], ◌∷◌, length, refl, sym, ap, subst, arith, Some, None}
 use Rattle.std.specs.Prelude.{slice_get, slice_index_or}
 use Rattle.std.proofs.lemmas.Option.{slice_get_read}
 use Rattle.std.proofs.lemmas.List.Elements.{All-head, All-tail}
@@ -11,7 +11,7 @@ use Rattle.dz_poly.specs.Books.{BookValue, Lives, polynomial}
 use Rattle.dz_terms.specs.Ranked.{symbols_under}
 use Rattle.dz_diff.specs.Operations.{setting_of}
 use Rattle.dz_diff.specs.State.{at_place}
-use Rattle.dz_diff.specs.States.{LiveAll, StandsIn, StateValue, polynomials, state_in}
+use Rattle.dz_diff.specs.States.{LiveAll, StateValue, polynomials, state_in}
 use Rattle.dz_step.specs.declared.Role.{Role}
 use Rattle.dz_step.specs.Permission.{is_permitted_at, is_permitted_by, is_permitted_with}
 use Rattle.dz_step.specs.Step.{is_permitted}

@@ -1,6 +1,6 @@
 -- What a replay finds, from what its steps answer.
-use Rattle.std.proofs.Common.{◌≡◌, ◌<◌, ◌≤◌, ◌+◌, ◌∙◌, ◌⊎◌, inl, inr, ℕ, suc, Bool, true, false, List, [], ◌∷◌, drop, length, refl, sym, ap, subst, arith, Result, Ok, Err, Option, Some, None}
-use Rattle.std.specs.Prelude.{slice_get, slice_index_or}
+use Rattle.std.proofs.Common.{◌≡◌, ◌<◌, ◌≤◌, ◌+◌, ◌∙◌, inl, inr, ℕ, suc, true, false, List, [], ◌∷◌, drop, length, refl, sym, ap, subst, arith, Result, Ok, Err, Option, Some, None}
+use Rattle.std.specs.Prelude.{slice_get}
 use Rattle.std.proofs.lemmas.List.{drop_all, drop_more}
 use Rattle.std.proofs.lemmas.Option.{get_or_from_slice_get}
 use Rattle.dz_algebra.specs.Parts.{leader}
@@ -10,10 +10,10 @@ use Rattle.dz_rank.specs.declared.symbols.Symbol.{Symbol}
 use Rattle.dz_diff.specs.Outcome.{◌>>=◌, given, needs, numbered}
 use Rattle.dz_diff.specs.Operations.{Setting}
 use Rattle.dz_diff.specs.State.{State, at_place}
-use Rattle.dz_step.specs.Replays.{IsReplayFault, end_of, fault_of, replay_fault}
-use Rattle.dz_step.specs.Run.{Ran, run, run_from}
+use Rattle.dz_step.specs.Replays.{IsReplayFault, end_of, replay_fault}
+use Rattle.dz_step.specs.Run.{Ran, run_from}
 use Rattle.dz_step.specs.Step.{Stop, refused, no_step, is_divisor, is_permitted, step_answer, step_in}
-use Rattle.dz_step.specs.StepStops.{IsStepStop, stop_of}
+use Rattle.dz_step.specs.StepStops.{IsStepStop}
 use Rattle.dz_step.specs.declared.Role.{Role}
 use Rattle.dz_step.specs.declared.Step.{Step}
 use Rattle.dz_step.specs.declared.replaying.ReplayFault.{ReplayFault}

@@ -1,10 +1,9 @@
-use Rattle.std.proofs.Common.{◌≡◌, ◌∙◌, Ok, Some, ap, inr, subst, sym, true}
-use Rattle.std.specs.Prelude.{IfOk, IfErr}
+use Rattle.std.proofs.Common.{◌≡◌, ◌∙◌, Some, ap, inr, sym, true}
 use Rattle.dz_algebra.specs.Parts.{leader}
 use Rattle.dz_diff.specs.Operations.{setting_of}
 use Rattle.dz_diff.specs.State.{at_place}
 use Rattle.dz_diff.specs.States.{state_in}
-use Rattle.dz_step.specs.StepStops.{stop_of, IsStepStop}
+use Rattle.dz_step.specs.StepStops.{stop_of}
 use Rattle.dz_step.specs.Step.{is_divisor, is_permitted, multiplier_answer, permitted_if, usable, step_in, step_answer}
 use Rattle.dz_step.proofs.BookPlaces.{none_at, some_at, lives_at}
 use Rattle.dz_step.proofs.RunEnds.{no_equation, no_leader, no_permission, has_permission}
