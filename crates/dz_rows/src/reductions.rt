@@ -25,7 +25,11 @@ const DERIVED: [(&[u8], [u8; 4], &[u8]); 8] = [
     (b"x^3*u", BY_X, b"u[x]*x^3 + 3*u*x^2"),
     (b"u[x]^2 - 4*u", BY_X, b"2*u[x,x]*u[x] - 4*u[x]"),
     (b"u*v", [0, 2, 0, 0], b"u[y,y]*v + v[y,y]*u + 2*u[y]*v[y]"),
-    (b"x*u - u[x]", [2, 0, 0, 0], b"-u[x,x,x] + u[x,x]*x + 2*u[x]"),
+    (
+        b"x*u - u[x]",
+        [2, 0, 0, 0],
+        b"-u[x,x,x] + u[x,x]*x + 2*u[x]",
+    ),
     (b"u[x]^2 - 4*u", ITSELF, b"u[x]^2 - 4*u"),
 ];
 
@@ -49,7 +53,10 @@ const UNDERIVED: [(&[u8], [u8; 4], PolyStop); 4] = [
 const SEPARANTS: [(&[u8], &[u8]); 4] = [
     (b"u[x]^2 - 4*u", b"2*u[x]"),
     (b"x*u - 3", b"x"),
-    (b"(v + x)*u[x]^3 + u[x]*v - u", b"3*u[x]^2*v + 3*u[x]^2*x + v"),
+    (
+        b"(v + x)*u[x]^3 + u[x]*v - u",
+        b"3*u[x]^2*v + 3*u[x]^2*x + v",
+    ),
     (b"v[y]^2*u - u^5", b"2*v[y]*u"),
 ];
 
@@ -112,12 +119,7 @@ fn written(alloc: Global, book: &Book, names: &Names, p: Poly) -> Result<Vec<u8>
 }
 
 /// The text of a derivative.
-fn derived(
-    alloc: Global,
-    names: &Names,
-    text: &[u8],
-    counts: [u8; 4],
-) -> Result<Vec<u8>, PolyStop>
+fn derived(alloc: Global, names: &Names, text: &[u8], counts: [u8; 4]) -> Result<Vec<u8>, PolyStop>
     requires { signature_of names.now ≡ record { independents = 2; dependents = 2 } }
 {
     let mut book = book(alloc)?;

@@ -1,5 +1,5 @@
 // Lists of steps, divisions by powers of symbols, and runs on polynomials that are read from texts.
-ghost use Rattle.std.specs.Prelude.{◌≡◌, IfOk, IfSome, IsTrue};
+ghost use Rattle.std.specs.Prelude.{◌≡◌, ◌≤◌, IfOk, IfSome, IsTrue, length};
 ghost use Rattle.dz_algebra.specs.Norm.{norm};
 ghost use Rattle.dz_poly.specs.Books.{Lives, polynomial};
 ghost use Rattle.dz_rows.specs.Members.{AreMembers};
@@ -9,10 +9,11 @@ ghost use Rattle.dz_diff.specs.States.{StandsIn};
 use crate::forms::{book, names};
 use dz_diff::leader;
 use dz_form::{read_poly, read_symbol, write_poly};
-use dz_poly::{Book, Poly, term_count};
+use dz_poly::{Book, Limit, Poly, term_count};
 use dz_rank::Operator;
 use dz_step::{
-    ReplayFault, Role, State, Step, StepList, divides_exactly, permitted, replay,
+    AttemptStop, ReplayFault, Role, State, Step, StepList, divides_exactly, permitted,
+    reduce_fully, replay,
 };
 use dz_syntax::Names;
 use dz_terms::{copied, into_norm, same_terms};
@@ -130,7 +131,8 @@ fn state(
 ) -> Option<State>
     requires equation { Lives book.now equation }
     requires inequation { Lives book.now inequation }
-    ensures { IfSome result (λ state. StandsIn book.now state) }
+    ensures stands { IfSome result (λ state. StandsIn book.now state) }
+    ensures few { IfSome result (λ state. length state.equations ≤ 65535) }
 {
     let equations = members(alloc, book, equation, true)?;
     let inequations = members(alloc, book, inequation, is_there)?;
@@ -230,4 +232,117 @@ fn a_separant_is_permitted_by_its_norm(rt: HostRuntime) {
     assert!(rt; permits(alloc, &names, false, 1, 1) == Some(false));
     assert!(rt; permits(alloc, &names, false, 1, 0) == Some(true));
     assert!(rt; permits(alloc, &names, true, 2, 1) == Some(false));
+}
+
+/// Texts of polynomials, and the steps of their full runs by `u[x]^2 - 4*u`, where `u[x]` is not
+/// zero, by how often they derive; and the texts of the ends.
+const FULL_RUNS: [(&[u8], &[u8], &[u8]); 5] = [
+    (b"u[x,x] - 2", &[1], b"0"),
+    (b"u[x]^3", &[0], b"u[x]*u"),
+    (b"u[x,x,x]", &[2, 1], b"0"),
+    (b"3*u[x] - 6*v", &[], b"u[x] - 2*v"),
+    (b"v[x]*u[x,x]^2", &[1, 1, 0], b"v[x]*u"),
+];
+
+/// Texts of polynomials, budgets, the steps up to there, and why it ends.
+const CUT_RUNS: [(&[u8], u32, &[u8], AttemptStop); 5] = [
+    (b"u[x,x] - 2", 0, &[], AttemptStop::Spent(SECOND)),
+    (b"u[x,x,x]", 3, &[2], AttemptStop::Spent(SECOND)),
+    (b"u[x,x,x]", 2, &[], AttemptStop::Spent(THIRD)),
+    (
+        b"u[x,x] + 170141183460469231731687303715884105727*v",
+        100,
+        &[],
+        AttemptStop::Wide(SECOND),
+    ),
+    (
+        b"u[x,x]*u[x]^65535",
+        100,
+        &[],
+        AttemptStop::Large(Limit::Exponent, SECOND),
+    ),
+];
+
+/// The steps by the first and the second derivative of the equation.
+const SECOND: Step = Step {
+    place: 1,
+    operator: Operator {
+        counts: [1, 0, 0, 0],
+    },
+};
+
+const THIRD: Step = Step {
+    place: 1,
+    operator: Operator {
+        counts: [2, 0, 0, 0],
+    },
+};
+
+/// How a full run ends: the steps, and the text of its end or why it stops before.
+#[derive(Drop)]
+struct Ending {
+    steps: StepList,
+    end: Result<Vec<u8>, AttemptStop>,
+}
+
+/// The full run on a polynomial by `u[x]^2 - 4*u`, where `u[x]` is not zero.
+fn full_run(alloc: Global, names: &Names, text: &[u8], budget: u32) -> Option<Ending>
+    requires { signature_of names.now ≡ record { independents = 2; dependents = 2 } }
+{
+    let mut book = book(alloc).ok()?;
+    let equation = read_poly(alloc, &mut book, names, b"u[x]^2 - 4*u").ok()?;
+    let inequation = read_poly(alloc, &mut book, names, b"u[x]").ok()?;
+    let f = read_poly(alloc, &mut book, names, text).ok()?;
+    let state = state(alloc, &book, equation, inequation, true)?;
+    match reduce_fully(alloc, &mut book, f, &state, Role::Free, budget) {
+        Ok((steps, end)) => {
+            let mut written = Vec::new(alloc);
+            write_poly(&book, end, names, &mut written).ok()?;
+            Some(Ending {
+                steps,
+                end: Ok(written),
+            })
+        }
+        Err(attempt) => Some(Ending {
+            steps: attempt.run,
+            end: Err(attempt.stop),
+        }),
+    }
+}
+
+/// Whether the steps are by the equation, derived so often by x.
+fn derive(steps: &StepList, orders: &[u8]) -> bool {
+    if steps.len() != orders.len() {
+        return false;
+    }
+    for k in 0..orders.len() {
+        if k < steps.len() && steps.get(k) != step(1, orders[k]) {
+            return false;
+        }
+    }
+    true
+}
+
+#[test]
+fn full_runs_come_to_their_ends(rt: HostRuntime) {
+    let Some(names) = names(rt.alloc()) else {
+        panic!(rt; "no names");
+    };
+    for (text, orders, end) in FULL_RUNS.iter() {
+        let Some(ending) = full_run(rt.alloc(), &names, text, 100) else {
+            panic!(rt; "no run");
+        };
+        assert!(rt; derive(&ending.steps, orders));
+        let Ok(written) = ending.end else {
+            panic!(rt; "no end");
+        };
+        assert!(rt; written.as_slice() == *end);
+    }
+    for (text, budget, orders, stop) in CUT_RUNS.iter() {
+        let Some(ending) = full_run(rt.alloc(), &names, text, *budget) else {
+            panic!(rt; "no run");
+        };
+        assert!(rt; derive(&ending.steps, orders));
+        assert!(rt; ending.end.err() == Some(*stop));
+    }
 }

@@ -1,5 +1,5 @@
 -- How a full run that has come so far goes on.
-use Rattle.std.proofs.Common.{◌≡◌, ◌<◌, ◌≤◌, ◌+◌, ◌-◌, ◌++◌, ◌∙◌, ℕ, zero, suc, List, [], ◌∷◌, length, refl, sym, ap, ap₂, subst, arith, Result, Ok, Err, Some}
+use Rattle.std.proofs.Common.{◌≡◌, ◌≤◌, ◌+◌, ◌-◌, ◌++◌, ◌∙◌, ℕ, zero, suc, List, [], ◌∷◌, length, refl, sym, ap, ap₂, subst, arith, Result, Ok, Err}
 use Rattle.dz_algebra.specs.Norm.{norm}
 use Rattle.dz_algebra.specs.Polynomial.{Polynomial}
 use Rattle.dz_algebra.specs.Size.{wide, large}
@@ -15,7 +15,7 @@ use Rattle.dz_step.specs.declared.attempts.AttemptStop.TheVariants.{Memory, Wide
 use Rattle.dz_step.specs.declared.attempts.Progress.{Progress}
 use Rattle.dz_step.specs.declared.attempts.Turn.TheVariants.{Taken, Stopped}
 use Rattle.dz_step.specs.Attempts.{IsAttemptOf, IsPrefix, steps_of}
-use Rattle.dz_step.specs.FullRun.{passed, full_run, full_run_from, next_step}
+use Rattle.dz_step.specs.FullRun.{passed, full_run, full_run_from}
 use Rattle.dz_step.specs.Step.{Stop, refused, step_in}
 use Rattle.dz_step.specs.Turns.{IsAt, IsTurn, Passes}
 use Rattle.dz_step.proofs.FullCourses.{goes_on, refused_at, so_far, spent_at}
@@ -57,10 +57,13 @@ module _ (r : RankingValue) (s : State) (role : Role) (budget : ℕ) (f : Polyno
 pub begins : (r : RankingValue) (s : State) (role : Role) (budget : ℕ) (f : Polynomial Symbol) (x : Entry) (run : List Step) → x.terms.items ≡ norm f → run ≡ [] → IsAt r s role budget f (record { run = run; rest = x; left = budget })
 unfolding full_run
 begins r s role budget f x run e g =
-    let none : 0 ≡ budget - budget = omega arith in
-    (budget, omega arith, omega arith,
-    ap₂ (λ (l : List Step) (p : Polynomial Symbol). full_run_from (setting_of r) s role budget (suc budget) l p 0) (sym g) (sym e)
-    ∙ ap (full_run_from (setting_of r) s role budget (suc budget) run x.terms.items) none)
+    let none : 0 ≡ budget - budget = omega arith in (
+      budget,
+      omega arith,
+      omega arith,
+      ap₂ (λ (l : List Step) (p : Polynomial Symbol). full_run_from (setting_of r) s role budget (suc budget) l p 0) (sym g) (sym e)
+          ∙ ap (full_run_from (setting_of r) s role budget (suc budget) run x.terms.items) none,
+    )
 
 -- and it is at least no steps
 pub no_steps : (r : RankingValue) (s : State) (role : Role) (budget : ℕ) (f : Polynomial Symbol) (run : List Step) (stop : AttemptStop) → run ≡ [] → stop ≡ Memory → IsAttemptOf (full_run (setting_of r) s role budget f) run stop

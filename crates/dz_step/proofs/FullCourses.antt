@@ -1,12 +1,11 @@
 -- Full runs, one turn after the other.
 use Rattle.std.specs.Prelude.{IfErr, IfOk}
-use Rattle.std.proofs.Common.{◌≡◌, ◌≢◌, ◌⊎◌, inl, inr, ◌<◌, ◌≤◌, ◌+◌, ◌-◌, ◌&&◌, ◌++◌, ◌∙◌, ℕ, zero, suc, Bool, true, false, cond, nat_lt, List, [], ◌∷◌, length, refl, sym, ap, ap₂, subst, arith, Result, Ok, Err, Option, Some, None, append-nil, append_assoc}
+use Rattle.std.proofs.Common.{◌≡◌, ◌≢◌, inl, inr, ◌<◌, ◌≤◌, ◌+◌, ◌++◌, ◌∙◌, ℕ, zero, suc, Bool, true, false, cond, nat_lt, List, [], ◌∷◌, length, refl, sym, ap, subst, arith, Result, Ok, Err, Option, Some, None, append-nil, append_assoc}
 use Rattle.std.proofs.lemmas.Bool.Decides.{nat_tests}
 use Rattle.std.proofs.lemmas.List.Elements.{All-head, All-tail}
 use Rattle.dz_algebra.specs.Polynomial.{Polynomial, PolynomialIn}
-use Rattle.dz_algebra.specs.Parts.{degree, leader}
-use Rattle.dz_rank.specs.Rankings.{RankingValue, ranking_cmp}
-use Rattle.dz_rank.specs.Symbols.{derivative_by}
+use Rattle.dz_algebra.specs.Parts.{leader}
+use Rattle.dz_rank.specs.Rankings.{RankingValue}
 use Rattle.dz_rank.specs.declared.symbols.Symbol.{Symbol}
 use Rattle.dz_terms.specs.Ranked.{symbols_under}
 use Rattle.dz_diff.specs.Lists.{AllOf}
@@ -131,10 +130,10 @@ module _ (r : RankingValue) (s : State) (role : Role) (f : Polynomial Symbol) (r
             equation = k.equation;
             stands = there;
             answer =
-            ap (λ (b : Bool). needs b no_step >>= (λ _. given (at_place st.place s.equations) no_step >>= (λ q. given (leader (symbols_under r) q) no_step >>= (λ l. needs (is_permitted (setting_of r) s role q l st.operator) no_step >>= (λ _. step_answer (setting_of r) f q st.operator))))) d.0
-            ∙ ap (λ (o : Option (Polynomial Symbol)). given o no_step >>= (λ q. given (leader (symbols_under r) q) no_step >>= (λ l. needs (is_permitted (setting_of r) s role q l st.operator) no_step >>= (λ _. step_answer (setting_of r) f q st.operator)))) there
-            ∙ ap (λ (o : Option Symbol). given o no_step >>= (λ l. needs (is_permitted (setting_of r) s role k.equation l st.operator) no_step >>= (λ _. step_answer (setting_of r) f k.equation st.operator))) k.leader_is
-            ∙ ap (λ (b : Bool). needs b no_step >>= (λ _. step_answer (setting_of r) f k.equation st.operator)) b.1;
+                ap (λ (b : Bool). needs b no_step >>= (λ _. given (at_place st.place s.equations) no_step >>= (λ q. given (leader (symbols_under r) q) no_step >>= (λ l. needs (is_permitted (setting_of r) s role q l st.operator) no_step >>= (λ _. step_answer (setting_of r) f q st.operator))))) d.0
+                ∙ ap (λ (o : Option (Polynomial Symbol)). given o no_step >>= (λ q. given (leader (symbols_under r) q) no_step >>= (λ l. needs (is_permitted (setting_of r) s role q l st.operator) no_step >>= (λ _. step_answer (setting_of r) f q st.operator)))) there
+                ∙ ap (λ (o : Option Symbol). given o no_step >>= (λ l. needs (is_permitted (setting_of r) s role k.equation l st.operator) no_step >>= (λ _. step_answer (setting_of r) f k.equation st.operator))) k.leader_is
+                ∙ ap (λ (b : Bool). needs b no_step >>= (λ _. step_answer (setting_of r) f k.equation st.operator)) b.1;
             limited = next_step_is_step r s role f st e regular all_regular;
           }
 

@@ -93,7 +93,13 @@ fn next_result(
     let Some(p) = equation_at(state, step.place) else {
         unreachable!()
     };
-    step_entry(book.allocator(), book.ranking(), f, book.entry(p), step.operator)
+    step_entry(
+        book.allocator(),
+        book.ranking(),
+        f,
+        book.entry(p),
+        step.operator,
+    )
 }
 
 /// The turn of the step that is next on `f`, where `left` of the budget is left.

@@ -38,7 +38,7 @@ pub(crate) struct Divisor {
 }
 
 /// Whether a role lets the equation at a place divide.
-fn lets_divide(role: Role, place: u16) -> bool
+pub(crate) fn lets_divide(role: Role, place: u16) -> bool
     ensures { result ≡ is_divisor role place }
 {
     match role {

@@ -9,9 +9,10 @@ ghost use Rattle.dz_diff.specs.Outcome.{numbered};
 ghost use Rattle.dz_diff.specs.States.{StandsIn, state_in};
 ghost use Rattle.dz_step.specs.Replays.{GivesReplay, IsReplayFault, end_of, replay_fault};
 ghost use Rattle.dz_step.specs.Run.{run};
-ghost use Rattle.dz_step.specs.Step.{is_divisor, step_in};
+ghost use Rattle.dz_step.specs.Step.{step_in};
 ghost use Rattle.dz_step.specs.StepStops.{IsStepStop};
 
+use crate::divisors::lets_divide;
 use crate::permission::{equation_at, is_granted, which_of};
 use crate::stepping::{StepStop, step_entry};
 use crate::{Role, Step, StepList};
@@ -48,16 +49,6 @@ impl From<AllocError> for ReplayFault {
     }
 }
 
-/// Whether the equation at a place is a divisor in a role.
-fn may_divide(role: Role, place: u16) -> bool
-    ensures { result ≡ is_divisor role place }
-{
-    match role {
-        Role::Equation(own) => own != place,
-        _ => true,
-    }
-}
-
 /// The step on `f` at a state in a role, with all its conditions.
 fn step_in_role(
     book: &Book,
@@ -74,7 +65,7 @@ fn step_in_role(
     ensures refused { IfErr result (λ stop. IsStepStop stop (step_in (setting_of book.now.ranking)
         (state_in book.now state.now) role f.now.terms.items step)) }
 {
-    if !may_divide(role, step.place) {
+    if !lets_divide(role, step.place) {
         return Err(StepStop::NotStep);
     }
     let Some(p) = equation_at(state, step.place) else {

@@ -13,27 +13,17 @@ ghost use Rattle.dz_diff.specs.States.{StandsIn, state_in};
 ghost use Rattle.dz_diff.specs.Tests.{Polynomials};
 ghost use Rattle.dz_step.specs.Divisors.{AreDivisors, IsDivisorOf};
 ghost use Rattle.dz_step.specs.FullRun.{next_step, step_at, step_with};
-ghost use Rattle.dz_step.specs.Step.{multiplier_of, step_degree};
+ghost use Rattle.dz_step.specs.Step.{step_degree};
 
 use crate::divisors::{Divisor, answered};
+use crate::permission::which_of;
 use crate::stepping::takes_derivation;
-use crate::{Role, Step, Which};
+use crate::{Role, Step};
 use dz_diff::State;
 use dz_poly::Book;
 use dz_rank::{Operator, Symbol, quotient};
 use dz_terms::Entry;
 use std::alloc::AllocError;
-
-/// The multiplier of a step by an operator's derivative.
-fn multiplier_of(operator: Operator) -> Which
-    ensures { result ≡ multiplier_of operator }
-{
-    if takes_derivation(operator) {
-        Which::Separant
-    } else {
-        Which::Initial
-    }
-}
 
 /// The degree of an operator's derivative of a divisor in its leader.
 fn least_degree(operator: Operator, divisor: Divisor) -> u16
@@ -80,7 +70,7 @@ fn step_with(
     if d < least_degree(operator, divisor) {
         return Ok(None);
     }
-    let which = multiplier_of(operator);
+    let which = which_of(operator);
     let q = book.entry(state.equations()[i]);
     let (granted, divisor) = answered(book, state, role, q, divisor, which)?;
     table[i] = Some(divisor);

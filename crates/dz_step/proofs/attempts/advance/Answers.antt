@@ -1,7 +1,6 @@
 use Rattle.std.proofs.Common.{◌≡◌, ◌++◌, ◌∷◌, [], length, rules, arith}
 use Rattle.std.proofs.lemmas.Grind.{common_steps}
 use Rattle.dz_diff.specs.States.{state_in}
-use Rattle.dz_step.specs.Turns.{IsTurn}
 use Rattle.dz_step.proofs.Advances.{cut_short, moved, stops}
 use Rattle.dz_step.proofs.attempts.advance.Goals as goal
 

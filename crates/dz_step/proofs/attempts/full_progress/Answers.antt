@@ -1,10 +1,5 @@
-use Rattle.std.proofs.Common.{◌≡◌, Ok, Some, [], refl}
-use Rattle.std.specs.Prelude.{IfOk, IfErr}
 use Rattle.dz_poly.specs.Books.{polynomial}
-use Rattle.dz_diff.specs.Operations.{setting_of}
 use Rattle.dz_diff.specs.States.{state_in}
-use Rattle.dz_step.specs.Attempts.{IsAttemptOf, ended}
-use Rattle.dz_step.specs.FullRun.{full_run}
 use Rattle.dz_step.proofs.Advances.{begins, no_steps}
 use Rattle.dz_step.proofs.FullCourses.{err_weaker, ok_weaker}
 use Rattle.dz_step.proofs.attempts.full_progress.Goals as goal

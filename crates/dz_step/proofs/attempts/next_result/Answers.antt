@@ -1,6 +1,5 @@
-use Rattle.std.proofs.Common.{◌≡◌, ◌∙◌, Ok, Err, Some, None, ap, sym, subst}
+use Rattle.std.proofs.Common.{◌≡◌, ◌∙◌, Ok, Some, None, ap, sym, subst}
 use Rattle.std.specs.Prelude.{IfOk, IfErr}
-use Rattle.dz_poly.specs.Books.{polynomial}
 use Rattle.dz_diff.specs.Operations.{setting_of}
 use Rattle.dz_diff.specs.State.{at_place}
 use Rattle.dz_diff.specs.States.{state_in}

@@ -14,7 +14,7 @@ returns-in_default-clause-refused c =
     let book = c.args.book.now in
     let g = setting_of book.ranking in
     let s = state_in book c.args.state.now in
-    let divisor : is_divisor c.args.role c.args.step.place ≡ true = sym c.may_divide.ensures ∙ c.if-not-may_divide.false in
+    let divisor : is_divisor c.args.role c.args.step.place ≡ true = sym c.lets_divide.ensures ∙ c.if-not-lets_divide.false in
     inr (ap stop_of (no_equation g s c.args.role c.args.f.now.terms.items c.args.step divisor (none_at book c.args.state.now.equations c.args.step.place (sym c.equation_at.ensures ∙ c.in_default.is))))
 
 pub entry-q-requires : goal.entry-q-requires
@@ -25,7 +25,7 @@ returns-in_default-leader_of-clause-refused c =
     let book = c.args.book.now in
     let g = setting_of book.ranking in
     let s = state_in book c.args.state.now in
-    let divisor : is_divisor c.args.role c.args.step.place ≡ true = sym c.may_divide.ensures ∙ c.if-not-may_divide.false in
+    let divisor : is_divisor c.args.role c.args.step.place ≡ true = sym c.lets_divide.ensures ∙ c.if-not-lets_divide.false in
     let q = c.entry-q.result.now.terms.items in
     let there : at_place c.args.step.place s.equations ≡ Some q = some_at book c.args.state.now.equations c.args.step.place c.in-Some.p (sym c.equation_at.ensures ∙ c.in-Some.is) ∙ ap Some (sym c.entry-q.ensures.value) in
     inr (ap stop_of (no_leader g s c.args.role c.args.f.now.terms.items c.args.step divisor q there (sym (c.leader_of.ensures book.ranking c.entry-q.ensures.entry) ∙ c.in_default-leader_of.is)))
@@ -35,7 +35,7 @@ returns-then-not-branch-clause-refused c =
     let book = c.args.book.now in
     let g = setting_of book.ranking in
     let s = state_in book c.args.state.now in
-    let divisor : is_divisor c.args.role c.args.step.place ≡ true = sym c.may_divide.ensures ∙ c.if-not-may_divide.false in
+    let divisor : is_divisor c.args.role c.args.step.place ≡ true = sym c.lets_divide.ensures ∙ c.if-not-lets_divide.false in
     let q = c.entry-q.result.now.terms.items in
     let there : at_place c.args.step.place s.equations ≡ Some q = some_at book c.args.state.now.equations c.args.step.place c.in-Some.p (sym c.equation_at.ensures ∙ c.in-Some.is) ∙ ap Some (sym c.entry-q.ensures.value) in
     let l = c.in-Some-leader_of.lead in
@@ -48,7 +48,7 @@ returns-clause-ok c =
     let book = c.args.book.now in
     let g = setting_of book.ranking in
     let s = state_in book c.args.state.now in
-    let divisor : is_divisor c.args.role c.args.step.place ≡ true = sym c.may_divide.ensures ∙ c.if-not-may_divide.false in
+    let divisor : is_divisor c.args.role c.args.step.place ≡ true = sym c.lets_divide.ensures ∙ c.if-not-lets_divide.false in
     let q = c.entry-q.result.now.terms.items in
     let there : at_place c.args.step.place s.equations ≡ Some q = some_at book c.args.state.now.equations c.args.step.place c.in-Some.p (sym c.equation_at.ensures ∙ c.in-Some.is) ∙ ap Some (sym c.entry-q.ensures.value) in
     let l = c.in-Some-leader_of.lead in
@@ -63,7 +63,7 @@ returns-clause-refused c =
     let book = c.args.book.now in
     let g = setting_of book.ranking in
     let s = state_in book c.args.state.now in
-    let divisor : is_divisor c.args.role c.args.step.place ≡ true = sym c.may_divide.ensures ∙ c.if-not-may_divide.false in
+    let divisor : is_divisor c.args.role c.args.step.place ≡ true = sym c.lets_divide.ensures ∙ c.if-not-lets_divide.false in
     let q = c.entry-q.result.now.terms.items in
     let there : at_place c.args.step.place s.equations ≡ Some q = some_at book c.args.state.now.equations c.args.step.place c.in-Some.p (sym c.equation_at.ensures ∙ c.in-Some.is) ∙ ap Some (sym c.entry-q.ensures.value) in
     let l = c.in-Some-leader_of.lead in

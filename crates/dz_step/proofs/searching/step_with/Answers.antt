@@ -109,7 +109,7 @@ returns-then-not-granted-clause-step c f e =
     let h = divisor_here r s c.args.role c.args.table.now.items c.requires.table c.args.i c.index.result.now c.requires.inside c.index.ensures c.in-Some.divisor c.in-Some.is in
     let four : length c.in-Some-quotient.operator.counts ≡ 4 = first_of (search rules, grind (arith, common_steps)) in
     let answer : c.in_ok-granted.granted ≡ is_multiplier r (usable c.args.role s.inequations) (multiplier_of c.in-Some-quotient.operator) c.in-Some.divisor.lead (slice_index_or s.equations c.args.i []) =
-    c.in_ok-granted.ensures.answer ∙ ap (λ w. is_multiplier r (usable c.args.role s.inequations) w c.in-Some.divisor.lead c.entry-q.result.now.terms.items) c.multiplier_of-which.ensures ∙ ap (is_multiplier r (usable c.args.role s.inequations) (multiplier_of c.in-Some-quotient.operator) c.in-Some.divisor.lead) here in
+    c.in_ok-granted.ensures.answer ∙ ap (λ w. is_multiplier r (usable c.args.role s.inequations) w c.in-Some.divisor.lead c.entry-q.result.now.terms.items) c.which_of-which.ensures ∙ ap (is_multiplier r (usable c.args.role s.inequations) (multiplier_of c.in-Some-quotient.operator) c.in-Some.divisor.lead) here in
     not_granted r s c.args.role f c.args.v (suc c.args.i) (slice_index_or s.equations c.args.i []) c.in-Some.divisor h.1 c.in-Some-quotient.operator four c.in-Some-quotient.ensures c.in_ok-granted.granted answer c.if-not-granted.true
 
 pub returns-clause-step : goal.returns-clause-step
@@ -124,7 +124,7 @@ returns-clause-step c f e =
     let h = divisor_here r s c.args.role c.args.table.now.items c.requires.table c.args.i c.index.result.now c.requires.inside c.index.ensures c.in-Some.divisor c.in-Some.is in
     let four : length c.in-Some-quotient.operator.counts ≡ 4 = first_of (search rules, grind (arith, common_steps)) in
     let answer : c.in_ok-granted.granted ≡ is_multiplier r (usable c.args.role s.inequations) (multiplier_of c.in-Some-quotient.operator) c.in-Some.divisor.lead (slice_index_or s.equations c.args.i []) =
-    c.in_ok-granted.ensures.answer ∙ ap (λ w. is_multiplier r (usable c.args.role s.inequations) w c.in-Some.divisor.lead c.entry-q.result.now.terms.items) c.multiplier_of-which.ensures ∙ ap (is_multiplier r (usable c.args.role s.inequations) (multiplier_of c.in-Some-quotient.operator) c.in-Some.divisor.lead) here in
+    c.in_ok-granted.ensures.answer ∙ ap (λ w. is_multiplier r (usable c.args.role s.inequations) w c.in-Some.divisor.lead c.entry-q.result.now.terms.items) c.which_of-which.ensures ∙ ap (is_multiplier r (usable c.args.role s.inequations) (multiplier_of c.in-Some-quotient.operator) c.in-Some.divisor.lead) here in
     ap (λ n. Some (record { place = n; operator = c.in-Some-quotient.operator })) (let p : c.args.i + 1 ≡ suc c.args.i = omega arith in p)
     ∙ step_found r s c.args.role f c.args.v (suc c.args.i) (slice_index_or s.equations c.args.i []) c.in-Some.divisor h.1 c.in-Some-quotient.operator four c.in-Some-quotient.ensures
     c.args.d c.least_degree.result c.in_ok-granted.granted h.0 e (c.least_degree.ensures r (usable c.args.role s.inequations) (slice_index_or s.equations c.args.i []) h.1) c.if-d-least_degree.false answer c.if-not-granted.false
