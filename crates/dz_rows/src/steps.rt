@@ -332,17 +332,26 @@ fn full_runs_come_to_their_ends(rt: HostRuntime) {
         let Some(ending) = full_run(rt.alloc(), &names, text, 100) else {
             panic!(rt; "no run");
         };
-        assert!(rt; derive(&ending.steps, orders));
-        let Ok(written) = ending.end else {
+        let Ending { steps, end: found } = ending;
+        assert!(rt; derive(&steps, orders));
+        let Ok(written) = found else {
             panic!(rt; "no end");
         };
         assert!(rt; written.as_slice() == *end);
     }
+}
+
+#[test]
+fn full_runs_stop_at_named_steps(rt: HostRuntime) {
+    let Some(names) = names(rt.alloc()) else {
+        panic!(rt; "no names");
+    };
     for (text, budget, orders, stop) in CUT_RUNS.iter() {
         let Some(ending) = full_run(rt.alloc(), &names, text, *budget) else {
             panic!(rt; "no run");
         };
-        assert!(rt; derive(&ending.steps, orders));
-        assert!(rt; ending.end.err() == Some(*stop));
+        let Ending { steps, end: found } = ending;
+        assert!(rt; derive(&steps, orders));
+        assert!(rt; found.err() == Some(*stop));
     }
 }
