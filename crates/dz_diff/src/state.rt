@@ -5,7 +5,7 @@ ghost use Rattle.std.specs.Prelude.{◌≡◌};
 use dz_poly::{Book, Poly};
 use std::marker::Model;
 
-/// Equations and inequations of a book, and the number of forks above them.
+/// Equations and inequations of a book, at most 256 together, and the number of forks above them.
 #[derive(Drop)]
 pub struct State {
     equations: Vec<Poly>,
@@ -14,6 +14,7 @@ pub struct State {
 }
 
 impl Model for State {
+    ghost use Rattle.std.specs.Prelude.{◌≤◌, ◌+◌, length};
     ghost use Rattle.dz_diff.specs.States.{StateValue};
 
     ghost Value = { StateValue };
@@ -23,10 +24,12 @@ impl Model for State {
       inequations = s.inequations.items;
       splits = s.splits;
     } };
+
+    ghost invariant = { λ s. length s.equations.items + length s.inequations.items ≤ 256 };
 }
 
 impl State {
-    ghost use Rattle.std.specs.Prelude.{◌≡◌};
+    ghost use Rattle.std.specs.Prelude.{◌≡◌, ◌≤◌, ◌+◌, length};
     ghost use Rattle.dz_diff.specs.States.{IsStateOf, StandsIn, state_in};
     ghost use Rattle.dz_terms.specs.Ranked.{symbols_under};
 
@@ -57,16 +60,18 @@ impl State {
         }
     }
 
-    /// The equations, in their order.
+    /// The equations, in their order. There are at most 256 members.
     pub fn equations(&self) -> &[Poly]
-        ensures { result.now ≡ self.now.equations }
+        ensures items { result.now ≡ self.now.equations }
+        ensures few { length result.now + length self.now.inequations ≤ 256 }
     {
         self.equations.as_slice()
     }
 
-    /// The inequations, in their order.
+    /// The inequations, in their order. There are at most 256 members.
     pub fn inequations(&self) -> &[Poly]
-        ensures { result.now ≡ self.now.inequations }
+        ensures items { result.now ≡ self.now.inequations }
+        ensures few { length self.now.equations + length result.now ≤ 256 }
     {
         self.inequations.as_slice()
     }

@@ -1,6 +1,6 @@
 //! Full runs.
 
-ghost use Rattle.std.specs.Prelude.{◌≡◌, ◌≢◌, ◌≤◌, ◌<◌, ℕ, true, [], length, Some, Ok, IfOk, IfErr, OnOk, OnErr};
+ghost use Rattle.std.specs.Prelude.{◌≡◌, ◌≢◌, ◌<◌, ℕ, true, [], Some, Ok, IfOk, IfErr, OnOk, OnErr};
 ghost use Rattle.dz_poly.specs.Books.{IsAdded, IsKept, Lives, polynomial};
 ghost use Rattle.dz_terms.specs.Entries.{IsEntry};
 ghost use Rattle.dz_diff.specs.Operations.{setting_of};
@@ -135,7 +135,6 @@ fn one_turn(
     left: u32,
 ) -> Turn
     requires stands { StandsIn book.now state.now }
-    requires few { length state.now.equations ≤ 65535 }
     requires table { AreDivisors book.now.ranking (state_in book.now state.now) role table.old.items }
     requires f { IsEntry book.now.ranking f.now.terms.items f.now.degrees.items }
     ensures table { AreDivisors book.now.ranking (state_in book.now state.now) role table.new.items }
@@ -158,7 +157,6 @@ fn advance(
     progress: &mut Progress,
 ) -> Result<bool, AttemptStop>
     requires stands { StandsIn book.now state.now }
-    requires few { length state.now.equations ≤ 65535 }
     requires table { AreDivisors book.now.ranking (state_in book.now state.now) role table.old.items }
     requires rest { IsEntry book.now.ranking progress.old.rest.terms.items progress.old.rest.degrees.items }
     ensures table { AreDivisors book.now.ranking (state_in book.now state.now) role table.new.items }
@@ -191,7 +189,6 @@ fn run_out(
     first: Progress,
 ) -> Result<Progress, Attempt>
     requires stands { StandsIn book.now state.now }
-    requires few { length state.now.equations ≤ 65535 }
     requires table { AreDivisors book.now.ranking (state_in book.now state.now) role table.items }
     requires rest { IsEntry book.now.ranking first.rest.terms.items first.rest.degrees.items }
     ensures ok { IfOk result (λ p. (budget : ℕ) (f : Polynomial Symbol)
@@ -242,7 +239,6 @@ fn full_progress(
     budget: u32,
 ) -> Result<Progress, Attempt>
     requires stands { StandsIn book.now state.now }
-    requires few { length state.now.equations ≤ 65535 }
     requires f { Lives book.now f }
     ensures ok { IfOk result (λ p.
         ended (full_run (setting_of book.now.ranking) (state_in book.now state.now) role budget
@@ -281,7 +277,6 @@ pub fn reduce_fully(
     budget: u32,
 ) -> Result<(StepList, Poly), Attempt>
     requires stands { StandsIn book.old state.now }
-    requires few { length state.now.equations ≤ 65535 }
     requires f { Lives book.old f }
     ensures ended { IfOk result (λ x.
         ended (full_run (setting_of book.old.ranking) (state_in book.old state.now) role budget

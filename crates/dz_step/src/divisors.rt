@@ -1,6 +1,6 @@
 //! What a full run keeps of the divisors of a state, so that each is looked at once.
 
-ghost use Rattle.std.specs.Prelude.{◌≡◌, ◌≤◌, Some, IfOk, length};
+ghost use Rattle.std.specs.Prelude.{◌≡◌, Some, IfOk};
 ghost use Rattle.dz_algebra.specs.Polynomial.{Polynomial};
 ghost use Rattle.dz_rank.specs.Rankings.{RankingValue};
 ghost use Rattle.dz_rank.specs.declared.symbols.Symbol.{Symbol};
@@ -72,7 +72,6 @@ pub(crate) fn divisors(
     role: Role,
 ) -> Result<Vec<Option<Divisor>>, AllocError>
     requires stands { StandsIn book.now state.now }
-    requires few { length state.now.equations ≤ 65535 }
     ensures { IfOk result (λ table.
         AreDivisors book.now.ranking (state_in book.now state.now) role table.items) }
 {

@@ -1,6 +1,6 @@
 //! The next step of a full run, on entries.
 
-ghost use Rattle.std.specs.Prelude.{◌≡◌, ◌≤◌, ◌<◌, suc, IfOk, length, slice_index_or, []};
+ghost use Rattle.std.specs.Prelude.{◌≡◌, ◌<◌, suc, IfOk, length, slice_index_or, []};
 ghost use Rattle.dz_algebra.specs.Parts.{degree, leader};
 ghost use Rattle.dz_algebra.specs.Polynomial.{Polynomial};
 ghost use Rattle.dz_rank.specs.Rankings.{RankingValue, ranking_cmp};
@@ -49,7 +49,6 @@ fn step_with(
     d: u16,
 ) -> Result<Option<Step>, AllocError>
     requires stands { StandsIn book.now state.now }
-    requires few { length state.now.equations ≤ 65535 }
     requires table { AreDivisors book.now.ranking (state_in book.now state.now) role table.old.items }
     requires inside { i < length table.old.items }
     requires four { HasFourExponents v }
@@ -93,7 +92,6 @@ fn step_at(
     d: u16,
 ) -> Result<Option<Step>, AllocError>
     requires stands { StandsIn book.now state.now }
-    requires few { length state.now.equations ≤ 65535 }
     requires table { AreDivisors book.now.ranking (state_in book.now state.now) role table.old.items }
     requires four { HasFourExponents v }
     ensures table { AreDivisors book.now.ranking (state_in book.now state.now) role table.new.items }
@@ -121,7 +119,6 @@ pub(crate) fn next_step_entry(
     f: &Entry,
 ) -> Result<Option<Step>, AllocError>
     requires stands { StandsIn book.now state.now }
-    requires few { length state.now.equations ≤ 65535 }
     requires table { AreDivisors book.now.ranking (state_in book.now state.now) role table.old.items }
     requires f { IsEntry book.now.ranking f.now.terms.items f.now.degrees.items }
     ensures table { AreDivisors book.now.ranking (state_in book.now state.now) role table.new.items }

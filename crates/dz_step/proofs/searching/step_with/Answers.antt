@@ -35,7 +35,7 @@ bounds-equations-i c =
     let s = state_in c.args.book.now c.args.state.now in
     let l = divisors_length r s c.args.role c.args.table.now.items c.requires.table in
     let n = polynomials_length c.args.book.now c.args.state.now.equations in
-    let m : length c.equations.result.now ≡ length c.args.state.now.equations = ap length c.equations.ensures in
+    let m : length c.equations.result.now ≡ length c.args.state.now.equations = ap length c.equations.ensures.items in
     omega (arith, l, n, m, c.requires.inside)
 
 pub entry-q-requires : goal.entry-q-requires
@@ -45,21 +45,21 @@ entry-q-requires c =
     let l = divisors_length r s c.args.role c.args.table.now.items c.requires.table in
     let n = polynomials_length c.args.book.now c.args.state.now.equations in
     let inside : c.args.i < length c.args.state.now.equations = omega (arith, l, n, c.requires.inside) in
-    let there : c.index-equations-i.result ≡ slice_index_or c.args.state.now.equations c.args.i c.index-equations-i.result = c.index-equations-i.is ∙ ap (λ ps. slice_index_or ps c.args.i c.index-equations-i.result) c.equations.ensures in
+    let there : c.index-equations-i.result ≡ slice_index_or c.args.state.now.equations c.args.i c.index-equations-i.result = c.index-equations-i.is ∙ ap (λ ps. slice_index_or ps c.args.i c.index-equations-i.result) c.equations.ensures.items in
     subst (Lives c.args.book.now) (sym there) (lives_here c.args.book.now c.args.state.now.equations c.args.i c.index-equations-i.result inside c.requires.stands.equations_live)
 
 pub offset_bounds-equations-i : goal.offset_bounds-equations-i
 offset_bounds-equations-i c =
     let l = divisors_length c.args.book.now.ranking (state_in c.args.book.now c.args.state.now) c.args.role c.args.table.now.items c.requires.table in
     let n = polynomials_length c.args.book.now c.args.state.now.equations in
-    let m : length c.equations.result.now ≡ length c.args.state.now.equations = ap length c.equations.ensures in
+    let m : length c.equations.result.now ≡ length c.args.state.now.equations = ap length c.equations.ensures.items in
     omega (arith, l, n, m, c.requires.inside, c.equations.type_inv.1)
 
 pub overflow_cast-result : goal.overflow_cast-result
 overflow_cast-result c =
     let l = divisors_length c.args.book.now.ranking (state_in c.args.book.now c.args.state.now) c.args.role c.args.table.now.items c.requires.table in
     let n = polynomials_length c.args.book.now c.args.state.now.equations in
-    omega (arith, l, n, c.requires.inside, c.requires.few)
+    omega (arith, l, n, c.requires.inside, c.equations.ensures.few)
 
 pub answered-requires-clause-divisor : goal.answered-requires-clause-divisor
 answered-requires-clause-divisor c =
@@ -69,7 +69,7 @@ answered-requires-clause-divisor c =
     let l = divisors_length r s c.args.role c.args.table.now.items c.requires.table in
     let n = polynomials_length c.args.book.now c.args.state.now.equations in
     let inside : c.args.i < length c.args.state.now.equations = omega (arith, l, n, c.requires.inside) in
-    let there : c.index-equations-i.result ≡ slice_index_or c.args.state.now.equations c.args.i c.index-equations-i.result = c.index-equations-i.is ∙ ap (λ ps. slice_index_or ps c.args.i c.index-equations-i.result) c.equations.ensures in
+    let there : c.index-equations-i.result ≡ slice_index_or c.args.state.now.equations c.args.i c.index-equations-i.result = c.index-equations-i.is ∙ ap (λ ps. slice_index_or ps c.args.i c.index-equations-i.result) c.equations.ensures.items in
     let here : c.entry-q.result.now.terms.items ≡ slice_index_or s.equations c.args.i [] = c.entry-q.ensures.value ∙ ap (polynomial c.args.book.now) there ∙ sym (polynomial_here c.args.book.now c.args.state.now.equations c.args.i c.index-equations-i.result inside) in
     subst (λ q. IsDivisorOf r (usable c.args.role s.inequations) q c.in-Some.divisor) (sym here) h.1
 
@@ -80,7 +80,7 @@ returns-then-not-granted-clause-table c =
     let l = divisors_length r s c.args.role c.args.table.now.items c.requires.table in
     let n = polynomials_length c.args.book.now c.args.state.now.equations in
     let inside : c.args.i < length c.args.state.now.equations = omega (arith, l, n, c.requires.inside) in
-    let there : c.index-equations-i.result ≡ slice_index_or c.args.state.now.equations c.args.i c.index-equations-i.result = c.index-equations-i.is ∙ ap (λ ps. slice_index_or ps c.args.i c.index-equations-i.result) c.equations.ensures in
+    let there : c.index-equations-i.result ≡ slice_index_or c.args.state.now.equations c.args.i c.index-equations-i.result = c.index-equations-i.is ∙ ap (λ ps. slice_index_or ps c.args.i c.index-equations-i.result) c.equations.ensures.items in
     let here : c.entry-q.result.now.terms.items ≡ slice_index_or s.equations c.args.i [] = c.entry-q.ensures.value ∙ ap (polynomial c.args.book.now) there ∙ sym (polynomial_here c.args.book.now c.args.state.now.equations c.args.i c.index-equations-i.result inside) in
     divisor_put r s c.args.role c.args.table.now.items c.requires.table c.args.i c.index.result.now c.requires.inside c.index.ensures c.in-Some.divisor c.in-Some.is c.in_ok-granted.divisor
     (subst (λ q. IsDivisorOf r (usable c.args.role s.inequations) q c.in_ok-granted.divisor) here c.in_ok-granted.ensures.divisor)
@@ -92,7 +92,7 @@ returns-clause-table c =
     let l = divisors_length r s c.args.role c.args.table.now.items c.requires.table in
     let n = polynomials_length c.args.book.now c.args.state.now.equations in
     let inside : c.args.i < length c.args.state.now.equations = omega (arith, l, n, c.requires.inside) in
-    let there : c.index-equations-i.result ≡ slice_index_or c.args.state.now.equations c.args.i c.index-equations-i.result = c.index-equations-i.is ∙ ap (λ ps. slice_index_or ps c.args.i c.index-equations-i.result) c.equations.ensures in
+    let there : c.index-equations-i.result ≡ slice_index_or c.args.state.now.equations c.args.i c.index-equations-i.result = c.index-equations-i.is ∙ ap (λ ps. slice_index_or ps c.args.i c.index-equations-i.result) c.equations.ensures.items in
     let here : c.entry-q.result.now.terms.items ≡ slice_index_or s.equations c.args.i [] = c.entry-q.ensures.value ∙ ap (polynomial c.args.book.now) there ∙ sym (polynomial_here c.args.book.now c.args.state.now.equations c.args.i c.index-equations-i.result inside) in
     divisor_put r s c.args.role c.args.table.now.items c.requires.table c.args.i c.index.result.now c.requires.inside c.index.ensures c.in-Some.divisor c.in-Some.is c.in_ok-granted.divisor
     (subst (λ q. IsDivisorOf r (usable c.args.role s.inequations) q c.in_ok-granted.divisor) here c.in_ok-granted.ensures.divisor)
@@ -104,7 +104,7 @@ returns-then-not-granted-clause-step c f e =
     let l = divisors_length r s c.args.role c.args.table.now.items c.requires.table in
     let n = polynomials_length c.args.book.now c.args.state.now.equations in
     let inside : c.args.i < length c.args.state.now.equations = omega (arith, l, n, c.requires.inside) in
-    let there : c.index-equations-i.result ≡ slice_index_or c.args.state.now.equations c.args.i c.index-equations-i.result = c.index-equations-i.is ∙ ap (λ ps. slice_index_or ps c.args.i c.index-equations-i.result) c.equations.ensures in
+    let there : c.index-equations-i.result ≡ slice_index_or c.args.state.now.equations c.args.i c.index-equations-i.result = c.index-equations-i.is ∙ ap (λ ps. slice_index_or ps c.args.i c.index-equations-i.result) c.equations.ensures.items in
     let here : c.entry-q.result.now.terms.items ≡ slice_index_or s.equations c.args.i [] = c.entry-q.ensures.value ∙ ap (polynomial c.args.book.now) there ∙ sym (polynomial_here c.args.book.now c.args.state.now.equations c.args.i c.index-equations-i.result inside) in
     let h = divisor_here r s c.args.role c.args.table.now.items c.requires.table c.args.i c.index.result.now c.requires.inside c.index.ensures c.in-Some.divisor c.in-Some.is in
     let four : length c.in-Some-quotient.operator.counts ≡ 4 = first_of (search rules, grind (arith, common_steps)) in
@@ -119,7 +119,7 @@ returns-clause-step c f e =
     let l = divisors_length r s c.args.role c.args.table.now.items c.requires.table in
     let n = polynomials_length c.args.book.now c.args.state.now.equations in
     let inside : c.args.i < length c.args.state.now.equations = omega (arith, l, n, c.requires.inside) in
-    let there : c.index-equations-i.result ≡ slice_index_or c.args.state.now.equations c.args.i c.index-equations-i.result = c.index-equations-i.is ∙ ap (λ ps. slice_index_or ps c.args.i c.index-equations-i.result) c.equations.ensures in
+    let there : c.index-equations-i.result ≡ slice_index_or c.args.state.now.equations c.args.i c.index-equations-i.result = c.index-equations-i.is ∙ ap (λ ps. slice_index_or ps c.args.i c.index-equations-i.result) c.equations.ensures.items in
     let here : c.entry-q.result.now.terms.items ≡ slice_index_or s.equations c.args.i [] = c.entry-q.ensures.value ∙ ap (polynomial c.args.book.now) there ∙ sym (polynomial_here c.args.book.now c.args.state.now.equations c.args.i c.index-equations-i.result inside) in
     let h = divisor_here r s c.args.role c.args.table.now.items c.requires.table c.args.i c.index.result.now c.requires.inside c.index.ensures c.in-Some.divisor c.in-Some.is in
     let four : length c.in-Some-quotient.operator.counts ≡ 4 = first_of (search rules, grind (arith, common_steps)) in
