@@ -39,6 +39,11 @@ LiveAll book ps = All (λ p. Lives book p) ps
 abbrev pub polynomials : BookValue → List ℕ → Polynomials
 polynomials book ps = map (λ p. polynomial book p) ps
 
+-- the numbers mean these polynomials, in their order
+pub record MeanAll (book : BookValue) (ps : List ℕ) (qs : Polynomials) : Type 0 where
+  pub live : LiveAll book ps
+  pub are : polynomials book ps ≡ qs
+
 -- all polynomials of a state stand in the book
 pub record StandsIn (book : BookValue) (s : StateValue) : Type 0 where
   pub equations_live : LiveAll book s.equations

@@ -5,6 +5,7 @@
 mod derivations;
 mod differentiating;
 pub mod laws;
+mod members;
 mod operators;
 mod parts;
 mod rates;
@@ -13,6 +14,7 @@ mod state;
 
 pub use derivations::{derivative, partial_derivative};
 pub use differentiating::{apply, differentiate};
+pub use members::{is_among, is_unit, norm_entry};
 pub use operators::applied;
 pub use parts::{initial, initial_of, leader, leader_of, separant};
 pub use state::State;

@@ -18,11 +18,10 @@ ghost use Rattle.dz_step.specs.Turns.{IsAdvance, IsAt, IsTurn};
 
 use crate::divisors::{Divisor, divisors};
 use crate::permission::equation_at;
-use crate::replaying::norm_entry;
 use crate::searching::next_step_entry;
 use crate::stepping::{StepStop, step_entry};
 use crate::{Role, Step, StepList};
-use dz_diff::State;
+use dz_diff::{State, norm_entry};
 use dz_poly::{Book, Limit, Poly};
 use dz_terms::Entry;
 use std::alloc::Global;

@@ -2,23 +2,22 @@
 
 ghost use Rattle.std.specs.Prelude.{◌≡◌, Some, Ok, IfOk, IfErr};
 ghost use Rattle.dz_algebra.specs.Parts.{leader};
-ghost use Rattle.dz_rank.specs.Rankings.{RankingValue};
 ghost use Rattle.dz_terms.specs.Entries.{IsEntry};
 ghost use Rattle.dz_terms.specs.Ranked.{symbols_under};
 ghost use Rattle.dz_terms.specs.Stops.{IsStop};
 ghost use Rattle.dz_diff.specs.Operations.{setting_of};
 ghost use Rattle.dz_diff.specs.State.{at_place, without_place};
-ghost use Rattle.dz_diff.specs.States.{LiveAll, StandsIn, polynomials, state_in};
-ghost use Rattle.dz_diff.specs.Tests.{Polynomials, is_member, is_unit};
+ghost use Rattle.dz_diff.specs.States.{StandsIn, state_in};
+ghost use Rattle.dz_diff.specs.Tests.{Polynomials};
 ghost use Rattle.dz_step.specs.Permission.{is_permitted_at};
 ghost use Rattle.dz_step.specs.Step.{is_allowed, multiplier_answer, multiplier_of, permitted_if, usable};
 
 use crate::stepping::takes_derivation;
 use crate::{Role, Which};
-use dz_diff::{State, initial_of, leader_of, partial_derivative};
+use dz_diff::{State, initial_of, is_among, is_unit, leader_of, partial_derivative};
 use dz_poly::{Book, Poly};
 use dz_rank::{Operator, Ranking, Symbol};
-use dz_terms::{Entry, PolyStop, Term, into_norm, same_terms};
+use dz_terms::{Entry, PolyStop, into_norm};
 use std::alloc::{AllocError, Global};
 
 /// The initial or the separant of an entry by a symbol.
@@ -45,39 +44,13 @@ fn multiplier(
 }
 
 /// The place of the inequation that permits nothing in a role, 0 for none.
-#[tactic(auto, using(crate::proofs::Permissions::none_left_out))]
+#[tactic(auto, using(dz_diff::proofs::MemberTests::none_left_out))]
 fn left_out(role: Role) -> usize
     ensures { (hs : Polynomials) → usable role hs ≡ without_place result hs }
 {
     match role {
         Role::Inequation(place) => place as usize,
         _ => 0,
-    }
-}
-
-/// Whether terms are those of an inequation, the one at a place left out.
-fn is_among(book: &Book, inequations: &[Poly], left_out: usize, terms: &[Term]) -> bool
-    requires { LiveAll book.now inequations.now }
-    ensures { result ≡ is_member (symbols_under book.now.ranking) terms.now
-        (without_place left_out (polynomials book.now inequations.now)) }
-{
-    'places: for k in 0..inequations.len() {
-        let inequation = book.entry(inequations[k]);
-        if k + 1 != left_out && same_terms(book.ranking(), terms, inequation.terms.as_slice()) {
-            return true;
-        }
-    }
-    false
-}
-
-/// Whether an entry is ground and not zero.
-fn is_unit(entry: &Entry) -> bool
-    ensures { (r : RankingValue) → IsEntry r entry.now.terms.items entry.now.degrees.items
-        → result ≡ is_unit (symbols_under r) entry.now.terms.items }
-{
-    match leader_of(entry) {
-        Some(_) => false,
-        None => !entry.terms.is_empty(),
     }
 }
 

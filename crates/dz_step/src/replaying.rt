@@ -1,7 +1,6 @@
 //! Replays of runs.
 
 ghost use Rattle.std.specs.Prelude.{◌≡◌, ◌+◌, Ok, IfOk, IfErr, OnOk, OnErr};
-ghost use Rattle.dz_algebra.specs.Norm.{norm};
 ghost use Rattle.dz_poly.specs.Books.{IsAdded, IsKept, Lives, polynomial};
 ghost use Rattle.dz_terms.specs.Entries.{IsEntry};
 ghost use Rattle.dz_diff.specs.Operations.{setting_of};
@@ -16,9 +15,9 @@ use crate::divisors::lets_divide;
 use crate::permission::{equation_at, is_granted, which_of};
 use crate::stepping::{StepStop, step_entry};
 use crate::{Role, Step, StepList};
-use dz_diff::{State, leader_of};
+use dz_diff::{State, leader_of, norm_entry};
 use dz_poly::{Book, Limit, Poly};
-use dz_terms::{Entry, copied, into_norm};
+use dz_terms::Entry;
 use std::alloc::AllocError;
 use thiserror::Error;
 
@@ -115,16 +114,6 @@ fn numbered_step(
         Ok(next) => Ok(next),
         Err(stop) => Err(fault_at(number, stop)),
     }
-}
-
-/// The norm of a polynomial of a book; the book keeps the polynomial.
-pub(crate) fn norm_entry(book: &Book, f: Poly) -> Result<Entry, AllocError>
-    requires { Lives book.now f }
-    ensures terms { IfOk result (λ x. x.terms.items ≡ norm (polynomial book.now f)) }
-    ensures entry { IfOk result (λ x. IsEntry book.now.ranking x.terms.items x.degrees.items) }
-{
-    let copy = copied(book.allocator(), book.entry(f))?;
-    Ok(into_norm(copy))
 }
 
 /// The end of a run.

@@ -1,3 +1,5 @@
+pub mod Systems
+pub mod Members
 pub mod Fault
 pub mod Moves
 pub mod Chain

@@ -1,10 +1,15 @@
 //! Decomposition trees: moves, forks, chains with evidence, and when a tree is certified.
 //!
-//! So far there are definitions here, in `specs/`, with the data that they speak of, and the laws
-//! of them in `laws`.
+//! So far there are systems and their roots, and of the rest the definitions, in `specs/`, with the
+//! data that they speak of, and the laws of them in `laws`.
 #![tactic(auto)]
 
 pub mod laws;
+mod roots;
+mod system;
+
+pub use roots::root;
+pub use system::System;
 
 /// A condition on a line of a tree.
 #[derive(Clone, Copy, Debug, PartialEq, Eq, Hash)]

@@ -59,7 +59,8 @@ pub overflow_cast-result : goal.overflow_cast-result
 overflow_cast-result c =
     let l = divisors_length c.args.book.now.ranking (state_in c.args.book.now c.args.state.now) c.args.role c.args.table.now.items c.requires.table in
     let n = polynomials_length c.args.book.now c.args.state.now.equations in
-    omega (arith, l, n, c.requires.inside, c.equations.ensures.few)
+    let m : length c.equations.result.now ≡ length c.args.state.now.equations = ap length c.equations.ensures.items in
+    omega (arith, l, n, m, c.requires.inside, c.equations.ensures.few)
 
 pub answered-requires-clause-divisor : goal.answered-requires-clause-divisor
 answered-requires-clause-divisor c =

@@ -1,7 +1,7 @@
 use Rattle.std.proofs.Common.{◌≡◌, ◌==◌, ◌∙◌, ap, arith, length, not, rules, sym}
 use Rattle.std.proofs.lemmas.Grind.{common_steps}
-use Rattle.dz_step.proofs.Permissions.{led_no_unit, unled_unit}
-use Rattle.dz_step.proofs.permission.is_unit.Goals as goal
+use Rattle.dz_diff.proofs.MemberTests.{led_no_unit, unled_unit}
+use Rattle.dz_diff.proofs.members.is_unit.Goals as goal
 
 pub returns-in-Some : goal.returns-in-Some
 returns-in-Some c r h = led_no_unit r c.args.entry.now.terms.items _ (sym (c.leader_of.ensures r h) ∙ c.in-Some.is)
