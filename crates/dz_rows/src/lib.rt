@@ -16,6 +16,10 @@ mod reductions;
 #[cfg(test)]
 mod run;
 #[cfg(test)]
+mod runs;
+#[cfg(test)]
+mod states;
+#[cfg(test)]
 mod steps;
 #[cfg(test)]
 mod systems;

@@ -1,23 +1,17 @@
-// Lists of steps, divisions by powers of symbols, and runs on polynomials that are read from texts.
-ghost use Rattle.std.specs.Prelude.{◌≡◌, ◌≤◌, IfOk, IfSome, IsTrue, length};
-ghost use Rattle.dz_algebra.specs.Norm.{norm};
-ghost use Rattle.dz_poly.specs.Books.{Lives, polynomial};
-ghost use Rattle.dz_rows.specs.Members.{AreMembers};
+// Lists of steps, divisions by powers of symbols, and replays on polynomials that are read from texts.
+ghost use Rattle.std.specs.Prelude.{◌≡◌};
+ghost use Rattle.dz_poly.specs.Books.{Lives};
 ghost use Rattle.dz_syntax.specs.Names.{signature_of};
 ghost use Rattle.dz_diff.specs.States.{StandsIn};
 
 use crate::forms::{book, names};
-use dz_diff::leader;
+use crate::states::{book_of, root_of};
 use dz_form::{read_poly, read_symbol, write_poly};
-use dz_poly::{Book, Limit, Poly, term_count};
+use dz_poly::{Book, Poly};
 use dz_rank::Operator;
-use dz_step::{
-    AttemptStop, ReplayFault, Role, State, Step, StepList, divides_exactly, permitted,
-    reduce_fully, replay,
-};
-use dz_syntax::Names;
-use dz_terms::{copied, into_norm, same_terms};
-use std::alloc::{AllocError, Global};
+use dz_step::{ReplayFault, Role, State, Step, StepList, divides_exactly, permitted, replay};
+use dz_syntax::{Form, Names, read_system};
+use std::alloc::Global;
 use std::test::Fail;
 
 /// Texts of a polynomial and of a symbol, the greatest power of it that divides, and the quotient.
@@ -83,62 +77,6 @@ fn steps_stay_in_their_order(rt: HostRuntime) -> Result<(), Fail> {
     Ok(())
 }
 
-/// Whether a polynomial is its own norm.
-fn is_norm(alloc: Global, book: &Book, p: Poly) -> Result<bool, AllocError>
-    requires { Lives book.now p }
-    ensures { IfOk result (λ b. IsTrue b → norm (polynomial book.now p) ≡ polynomial book.now p) }
-{
-    let entry = book.entry(p);
-    let norm = into_norm(copied(alloc, entry)?);
-    Ok(same_terms(
-        book.ranking(),
-        norm.terms.as_slice(),
-        entry.terms.as_slice(),
-    ))
-}
-
-/// The list of this member, if it is there.
-fn members(alloc: Global, book: &Book, p: Poly, is_there: bool) -> Option<Vec<Poly>>
-    requires { Lives book.now p }
-    ensures { IfSome result (λ all. AreMembers book.now all.items) }
-{
-    let mut all = Vec::new(alloc);
-    if !is_there {
-        return Some(all);
-    }
-    let Some(_) = leader(book, p) else {
-        return None;
-    };
-    if term_count(book, p) > 100 {
-        return None;
-    }
-    let Ok(true) = is_norm(alloc, book, p) else {
-        return None;
-    };
-    let Ok(()) = all.push(p) else {
-        return None;
-    };
-    Some(all)
-}
-
-/// The state of one equation, and one inequation if it is there.
-fn state(
-    alloc: Global,
-    book: &Book,
-    equation: Poly,
-    inequation: Poly,
-    is_there: bool,
-) -> Option<State>
-    requires equation { Lives book.now equation }
-    requires inequation { Lives book.now inequation }
-    ensures stands { IfSome result (λ state. StandsIn book.now state) }
-    ensures few { IfSome result (λ state. length state.equations ≤ 65535) }
-{
-    let equations = members(alloc, book, equation, true)?;
-    let inequations = members(alloc, book, inequation, is_there)?;
-    Some(State::new(book, equations, inequations, 0))
-}
-
 /// What a replay answers, with the text of the end.
 fn end_text(
     alloc: Global,
@@ -163,195 +101,60 @@ fn end_text(
     }
 }
 
-/// What a replay of these steps on `u[x,x] - 2` answers, with the text of the end. The equation is
-/// `u[x]^2 - 4*u`, and the inequation, if it is there, is `u[x]`.
+/// A state with a separant that is permitted, and one without.
+const SPLIT: &[u8] =
+    b"derivations x; ranking grlexA [u]; equations u[x]^2 - 4*u; inequations u[x]; end";
+
+const WHOLE: &[u8] = b"derivations x; ranking grlexA [u]; equations u[x]^2 - 4*u; inequations; end";
+
+/// What a replay of these steps on `u[x,x] - 2` at the root of a system answers, with the text of
+/// the end.
 fn replayed(
     alloc: Global,
-    names: &Names,
-    is_there: bool,
+    system: &[u8],
     steps: &StepList,
     role: Role,
-) -> Option<Result<Vec<u8>, ReplayFault>>
-    requires { signature_of names.now ≡ record { independents = 2; dependents = 2 } }
-{
-    let mut book = book(alloc).ok()?;
-    let equation = read_poly(alloc, &mut book, names, b"u[x]^2 - 4*u").ok()?;
-    let inequation = read_poly(alloc, &mut book, names, b"u[x]").ok()?;
-    let f = read_poly(alloc, &mut book, names, b"u[x,x] - 2").ok()?;
-    let state = state(alloc, &book, equation, inequation, is_there)?;
-    end_text(alloc, &mut book, names, f, steps, &state, role)
+) -> Option<Result<Vec<u8>, ReplayFault>> {
+    let tree = read_system(alloc, system, Form::Plain).ok()?;
+    let mut book = book_of(alloc, &tree)?;
+    let state = root_of(alloc, &mut book, &tree)?;
+    let f = read_poly(alloc, &mut book, &tree.names, b"u[x,x] - 2").ok()?;
+    end_text(alloc, &mut book, &tree.names, f, steps, &state, role)
 }
 
 #[test]
 fn a_step_needs_permission(rt: HostRuntime) -> Result<(), Fail> {
     let alloc = rt.alloc();
-    let Some(names) = names(alloc) else {
-        panic!(rt; "no names");
-    };
     let mut steps = StepList::new(alloc);
     steps.push(step(1, 1))?;
-    let Some(Ok(end)) = replayed(alloc, &names, true, &steps, Role::Free) else {
+    let Some(Ok(end)) = replayed(alloc, SPLIT, &steps, Role::Free) else {
         panic!(rt; "no end");
     };
     assert!(rt; end.as_slice() == b"0".as_slice());
-    let refused = replayed(alloc, &names, false, &steps, Role::Free);
+    let refused = replayed(alloc, WHOLE, &steps, Role::Free);
     assert!(rt; matches!(refused, Some(Err(ReplayFault::NotStep(1)))));
-    let own = replayed(alloc, &names, true, &steps, Role::Equation(1));
+    let own = replayed(alloc, SPLIT, &steps, Role::Equation(1));
     assert!(rt; matches!(own, Some(Err(ReplayFault::NotStep(1)))));
-    let left_out = replayed(alloc, &names, true, &steps, Role::Inequation(1));
+    let left_out = replayed(alloc, SPLIT, &steps, Role::Inequation(1));
     assert!(rt; matches!(left_out, Some(Err(ReplayFault::NotStep(1)))));
     Ok(())
 }
 
-/// Whether the multiplier of the step at a place with so many derivations is permitted, where the
-/// equation is `u[x]^2 - 4*u`, and the inequation, if it is there, is `u[x]`.
-fn permits(alloc: Global, names: &Names, is_there: bool, place: u16, order: u8) -> Option<bool>
-    requires { signature_of names.now ≡ record { independents = 2; dependents = 2 } }
-{
-    let mut book = book(alloc).ok()?;
-    let equation = read_poly(alloc, &mut book, names, b"u[x]^2 - 4*u").ok()?;
-    let inequation = read_poly(alloc, &mut book, names, b"u[x]").ok()?;
-    let state = state(alloc, &book, equation, inequation, is_there)?;
-    permitted(
-        &book,
-        &state,
-        Role::Free,
-        place,
-        step(place, order).operator,
-    )
-    .ok()
+/// Whether the multiplier of the step at a place with so many derivations is permitted at the root
+/// of a system.
+fn permits(alloc: Global, system: &[u8], place: u16, order: u8) -> Option<bool> {
+    let tree = read_system(alloc, system, Form::Plain).ok()?;
+    let mut book = book_of(alloc, &tree)?;
+    let state = root_of(alloc, &mut book, &tree)?;
+    let operator = step(place, order).operator;
+    permitted(&book, &state, Role::Free, place, operator).ok()
 }
 
 #[test]
 fn a_separant_is_permitted_by_its_norm(rt: HostRuntime) {
     let alloc = rt.alloc();
-    let Some(names) = names(alloc) else {
-        panic!(rt; "no names");
-    };
-    assert!(rt; permits(alloc, &names, true, 1, 1) == Some(true));
-    assert!(rt; permits(alloc, &names, false, 1, 1) == Some(false));
-    assert!(rt; permits(alloc, &names, false, 1, 0) == Some(true));
-    assert!(rt; permits(alloc, &names, true, 2, 1) == Some(false));
-}
-
-/// Texts of polynomials, and the steps of their full runs by `u[x]^2 - 4*u`, where `u[x]` is not
-/// zero, by how often they derive; and the texts of the ends.
-const FULL_RUNS: [(&[u8], &[u8], &[u8]); 5] = [
-    (b"u[x,x] - 2", &[1], b"0"),
-    (b"u[x]^3", &[0], b"u[x]*u"),
-    (b"u[x,x,x]", &[2, 1], b"0"),
-    (b"3*u[x] - 6*v", &[], b"u[x] - 2*v"),
-    (b"v[x]*u[x,x]^2", &[1, 1, 0], b"v[x]*u"),
-];
-
-/// Texts of polynomials, budgets, the steps up to there, and why it ends.
-const CUT_RUNS: [(&[u8], u32, &[u8], AttemptStop); 5] = [
-    (b"u[x,x] - 2", 0, &[], AttemptStop::Spent(SECOND)),
-    (b"u[x,x,x]", 3, &[2], AttemptStop::Spent(SECOND)),
-    (b"u[x,x,x]", 2, &[], AttemptStop::Spent(THIRD)),
-    (
-        b"u[x,x] + 170141183460469231731687303715884105727*v",
-        100,
-        &[],
-        AttemptStop::Wide(SECOND),
-    ),
-    (
-        b"u[x,x]*u[x]^65535",
-        100,
-        &[],
-        AttemptStop::Large(Limit::Exponent, SECOND),
-    ),
-];
-
-/// The steps by the first and the second derivative of the equation.
-const SECOND: Step = Step {
-    place: 1,
-    operator: Operator {
-        counts: [1, 0, 0, 0],
-    },
-};
-
-const THIRD: Step = Step {
-    place: 1,
-    operator: Operator {
-        counts: [2, 0, 0, 0],
-    },
-};
-
-/// How a full run ends: the steps, and the text of its end or why it stops before.
-#[derive(Drop)]
-struct Ending {
-    steps: StepList,
-    end: Result<Vec<u8>, AttemptStop>,
-}
-
-/// The full run on a polynomial by `u[x]^2 - 4*u`, where `u[x]` is not zero.
-fn full_run(alloc: Global, names: &Names, text: &[u8], budget: u32) -> Option<Ending>
-    requires { signature_of names.now ≡ record { independents = 2; dependents = 2 } }
-{
-    let mut book = book(alloc).ok()?;
-    let equation = read_poly(alloc, &mut book, names, b"u[x]^2 - 4*u").ok()?;
-    let inequation = read_poly(alloc, &mut book, names, b"u[x]").ok()?;
-    let f = read_poly(alloc, &mut book, names, text).ok()?;
-    let state = state(alloc, &book, equation, inequation, true)?;
-    match reduce_fully(alloc, &mut book, f, &state, Role::Free, budget) {
-        Ok((steps, end)) => {
-            let mut written = Vec::new(alloc);
-            write_poly(&book, end, names, &mut written).ok()?;
-            Some(Ending {
-                steps,
-                end: Ok(written),
-            })
-        }
-        Err(attempt) => Some(Ending {
-            steps: attempt.run,
-            end: Err(attempt.stop),
-        }),
-    }
-}
-
-/// Whether the steps are by the equation, derived so often by x.
-fn derive(steps: &StepList, orders: &[u8]) -> bool {
-    if steps.len() != orders.len() {
-        return false;
-    }
-    for k in 0..orders.len() {
-        if k < steps.len() && steps.get(k) != step(1, orders[k]) {
-            return false;
-        }
-    }
-    true
-}
-
-#[test]
-fn full_runs_come_to_their_ends(rt: HostRuntime) {
-    let Some(names) = names(rt.alloc()) else {
-        panic!(rt; "no names");
-    };
-    for (text, orders, end) in FULL_RUNS.iter() {
-        let Some(ending) = full_run(rt.alloc(), &names, text, 100) else {
-            panic!(rt; "no run");
-        };
-        let Ending { steps, end: found } = ending;
-        assert!(rt; derive(&steps, orders));
-        let Ok(written) = found else {
-            panic!(rt; "no end");
-        };
-        assert!(rt; written.as_slice() == *end);
-    }
-}
-
-#[test]
-fn full_runs_stop_at_named_steps(rt: HostRuntime) {
-    let Some(names) = names(rt.alloc()) else {
-        panic!(rt; "no names");
-    };
-    for (text, budget, orders, stop) in CUT_RUNS.iter() {
-        let Some(ending) = full_run(rt.alloc(), &names, text, *budget) else {
-            panic!(rt; "no run");
-        };
-        let Ending { steps, end: found } = ending;
-        assert!(rt; derive(&steps, orders));
-        assert!(rt; found.err() == Some(*stop));
-    }
+    assert!(rt; permits(alloc, SPLIT, 1, 1) == Some(true));
+    assert!(rt; permits(alloc, WHOLE, 1, 1) == Some(false));
+    assert!(rt; permits(alloc, WHOLE, 1, 0) == Some(true));
+    assert!(rt; permits(alloc, SPLIT, 2, 1) == Some(false));
 }
