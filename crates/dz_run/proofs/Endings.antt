@@ -2,6 +2,7 @@
 use Rattle.std.proofs.Common.{◌≡◌, ◌==◌, ◌∙◌, sym, ap, subst, refl, ℕ, zero, suc, false, List, [], length, Option, Some, None, Result, Ok, Err, append-nil, inr, arith}
 use Rattle.std.specs.Prelude.{⊤}
 use Rattle.std.specs.Io.KnownBytes.{Appends}
+use Rattle.dz_diff.specs.Root.{System}
 use Rattle.dz_syntax.specs.declared.endings.Form.TheVariants.{Plain}
 use Rattle.dz_syntax.specs.declared.fault.SyntaxFault.{SyntaxFault}
 use Rattle.dz_syntax.specs.Systems.{Tree, system_of}
@@ -13,7 +14,7 @@ use Rattle.dz_run.specs.Answer.{Answer, answer_to, built, built_answer, reading_
 use Rattle.dz_run.specs.Ending.{IsSilent}
 use Rattle.dz_run.specs.Root.{Root}
 use Rattle.dz_run.specs.Run.{Ends, Input, IsAnswered, IsGiven, Output, WritesAnswer}
-use Rattle.dz_run.specs.System.{System, system_answer}
+use Rattle.dz_run.specs.System.{system_answer}
 
 -- an ending that an answer has
 abbrev pub IsAnswerEnding : Ending → Type 0

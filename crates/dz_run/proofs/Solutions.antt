@@ -1,14 +1,19 @@
 -- What a run that is done means at a point.
-use Rattle.std.proofs.Common.{◌≡◌, true, false, if◌then◌else◌, List, [], ◌∷◌, ◌+◌, ℕ, All, Option, Some, None, Result, Ok, Err, ap, length, refl, subst, sym, ◌∙◌}
-use Rattle.std.specs.Prelude.{nat_le, nat_lt}
+use Rattle.std.proofs.Common.{◌≡◌, true, false, if◌then◌else◌, List, [], ◌∷◌, ◌+◌, ℕ, All, Option, Some, None, Result, Ok, Err, ap, refl, subst, sym, ◌∙◌}
+use Rattle.std.specs.Prelude.{nat_le}
 use Rattle.std.specs.Io.KnownBytes.{Appends}
 use Rattle.std.proofs.lemmas.List.Elements.{All-head, All-tail}
 use Rattle.dz_algebra.specs.Domain.{DomainLaws, Operations}
 use Rattle.dz_algebra.specs.Polynomial.{Polynomial}
 use Rattle.dz_algebra.specs.Size.{Refusal, wide, large}
-use Rattle.dz_algebra.specs.declared.Limit.TheVariants as limits
+use Rattle.dz_algebra.specs.declared.Limit.{Limit}
 use Rattle.dz_domain.specs.Point.{Coordinates, IsPoint}
-use Rattle.dz_form.specs.Values.{◌>>=◌, Polynomials, item_answer}
+use Rattle.dz_form.specs.Values.{◌>>=◌, item_answer}
+use Rattle.dz_diff.specs.Lists.{AllOf}
+use Rattle.dz_diff.specs.Over.{AreOver, IsOver}
+use Rattle.dz_diff.specs.Root.{System, root_of}
+use Rattle.dz_diff.specs.Tests.{Polynomials}
+use Rattle.dz_tree.specs.Systems.{system_limit}
 use Rattle.dz_terms.specs.Ranked.{symbols_under}
 use Rattle.dz_rank.specs.Rankings.{RankingValue}
 use Rattle.dz_rank.specs.declared.symbols.Symbol.{Symbol}
@@ -29,10 +34,10 @@ use Rattle.dz_run.specs.declared.system.Refused.{Refused}
 use Rattle.dz_run.specs.declared.system.Refused.TheVariants as refusals
 use Rattle.dz_run.specs.Answer.{answer_to, built, built_answer, document_of, reading_told, system_told}
 use Rattle.dz_run.specs.Ending.{status_of}
-use Rattle.dz_run.specs.Root.{Root, root_of, tree_of_root}
+use Rattle.dz_run.specs.Root.{Root, tree_of_root}
 use Rattle.dz_run.specs.Run.{Ends, Input, IsGiven, IsSolvedBy, Output}
-use Rattle.dz_run.specs.System.{System, before as before_values, items_answer, numbered, ranking_of, system_answer, terms_of, within_limits}
-use Rattle.dz_run.proofs.Splitting.{AllOf, IsOver, root_has_solutions}
+use Rattle.dz_run.specs.System.{before as before_values, items_answer, numbered, or_limit, ranking_of, system_answer, within_limits}
+use Rattle.dz_run.proofs.Splitting.{root_has_solutions}
 
 -- ---- the values of the items
 -- an answer that goes on has a first part
@@ -53,19 +58,13 @@ before_ok p (Err h) ps e = absurd cc
 
 -- a system within the limits has the values as its members
 limits_ok : (es hs : Polynomials) (s : System) → within_limits es hs ≡ Ok s → (es ≡ s.equations) × (hs ≡ s.inequations)
-limits_ok es hs s e =
-    elim (nat_lt 256 (length es + length hs)) as (λ b.
-    (if b then Err (refusals.TooMany limits.Polynomials) else if nat_lt 65536 (terms_of es + terms_of hs) then Err (refusals.TooMany limits.Node) else Ok (record { equations = es; inequations = hs })) ≡ Ok s
-    → (es ≡ s.equations) × (hs ≡ s.inequations)) [
-      | true ↦ λ k. absurd cc
-      | false ↦ λ k. elim (nat_lt 65536 (terms_of es + terms_of hs)) as (λ b.
-          (if b then Err (refusals.TooMany limits.Node) else Ok (record { equations = es; inequations = hs })) ≡ Ok s → (es ≡ s.equations) × (hs ≡ s.inequations)) [
-            | true ↦ λ m. absurd cc
-            | false ↦ λ m.
-                let equal : record { equations = es; inequations = hs } ≡ s = cc in
-                (ap (λ x. x.equations) equal, ap (λ x. x.inequations) equal)
-          ] k
-    ] e
+limits_ok es hs s e = by_limit (system_limit (record { equations = es; inequations = hs })) e
+  where
+    by_limit : (limit : Option Limit) → or_limit (record { equations = es; inequations = hs }) limit ≡ Ok s → (es ≡ s.equations) × (hs ≡ s.inequations)
+    by_limit None k =
+        let equal : record { equations = es; inequations = hs } ≡ s = cc in
+        (ap (λ x. x.equations) equal, ap (λ x. x.inequations) equal)
+    by_limit (Some limit) k = absurd cc
 
 module _ (r : RankingValue) where
   -- the values of items are over the ranking
@@ -78,13 +77,8 @@ module _ (r : RankingValue) where
       let over : IsOver r first.0 = record { canonical = kept.canonical; belongs = kept.belongs } in
       subst (λ x. AllOf (IsOver r) x) rest.2 (over, items_over group (n + 1) items rest.0 (All-tail (λ item. IsExpression r.signature item) steps items h) rest.1)
 
--- the members of a system are over its ranking
-pub record AreOver (r : RankingValue) (s : System) : Type 0 where
-  pub equations : AllOf (IsOver r) s.equations
-  pub inequations : AllOf (IsOver r) s.inequations
-
 -- the members of a system of a text are over its ranking
-system_over : (tree : Tree) (s : System) → HasExpressions tree → system_answer tree ≡ Ok s → AreOver (ranking_of tree) s
+system_over : (tree : Tree) (s : System) → HasExpressions tree → system_answer tree ≡ Ok s → AreOver (ranking_of tree) s.equations s.inequations
 unfolding system_answer
 system_over tree s has e =
     let g = symbols_under (ranking_of tree) in
@@ -92,8 +86,8 @@ system_over tree s has e =
     let second = bind_ok (items_answer g Inequation 0 tree.inequations) (λ hs. within_limits first.0 hs) s first.2 in
     let members = limits_ok first.0 second.0 s second.2 in
     record {
-      equations = subst (λ x. AllOf (IsOver (ranking_of tree)) x) members.0 (items_over (ranking_of tree) Equation 0 tree.equations first.0 has.equations first.1);
-      inequations = subst (λ x. AllOf (IsOver (ranking_of tree)) x) members.1 (items_over (ranking_of tree) Inequation 0 tree.inequations second.0 has.inequations second.1);
+      equations_over = subst (λ x. AllOf (IsOver (ranking_of tree)) x) members.0 (items_over (ranking_of tree) Equation 0 tree.equations first.0 has.equations first.1);
+      inequations_over = subst (λ x. AllOf (IsOver (ranking_of tree)) x) members.1 (items_over (ranking_of tree) Inequation 0 tree.inequations second.0 has.inequations second.1);
     }
 
 -- ---- the answer
@@ -164,8 +158,8 @@ given_is_solved laws point words before after out out' (answer, (bytes, decompos
       expanded = made.expanded;
       built = made.stands;
       printed = subst (Appends out.written out'.written) (sym (ap (λ a. a.output) told) ∙ answer_shown bytes made) grown;
-      solutions = λ fits. (root_has_solutions (ranking_of made.tree) laws point fits made.system made.root over.equations over.inequations tree).0;
-      nonsingular = λ fits. (root_has_solutions (ranking_of made.tree) laws point fits made.system made.root over.equations over.inequations tree).1;
+      solutions = λ fits. (root_has_solutions (ranking_of made.tree) laws point fits made.system made.root over.equations_over over.inequations_over tree).0;
+      nonsingular = λ fits. (root_has_solutions (ranking_of made.tree) laws point fits made.system made.root over.equations_over over.inequations_over tree).1;
     }
 
 -- so does a run that ends with status 0

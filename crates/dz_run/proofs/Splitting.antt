@@ -1,10 +1,9 @@
 -- The tree of one line that is built for a system has the solutions of the system.
-use Rattle.std.proofs.Common.{◌≡◌, ◌≢◌, ◌⊎◌, ◌↔◌, ◌≤◌, ◌||◌, not, ℕ, zero, suc, Bool, true, false, if◌then◌else◌, [], ◌∷◌, ◌++◌, All, ℤ, pos, negsuc, Some, None, refl, subst, arith, sym, ap, ◌∙◌, inl, inr, eqb-true}
-use Rattle.std.specs.Prelude.{⊤}
+use Rattle.std.proofs.Common.{◌≡◌, ◌≢◌, ◌↔◌, ◌≤◌, ◌||◌, not, ℕ, zero, suc, Bool, true, false, if◌then◌else◌, [], ◌∷◌, ◌++◌, All, ℤ, pos, negsuc, Some, None, refl, subst, arith, sym, ap, ◌∙◌, inl, inr, eqb-true}
 use Rattle.std.proofs.lemmas.List.Elements.{All-cons, All-head, All-nil, All-tail}
 use Rattle.dz_algebra.specs.Domain.{Operations, DomainLaws, copies}
 use Rattle.dz_algebra.specs.Ring.{Ring, Value, same_value, values_arithmetic, ring_of_values, product_zero, negative_negative, negative_zero}
-use Rattle.dz_algebra.specs.Polynomial.{Contributions, Polynomial, IsPolynomial, PolynomialIn}
+use Rattle.dz_algebra.specs.Polynomial.{Contributions, Polynomial, IsPolynomial}
 use Rattle.dz_algebra.specs.Parts.{coefficient_of, degree, initial, is_ground, leader, separant}
 use Rattle.dz_algebra.specs.Norm.{norm, signed_content}
 use Rattle.dz_algebra.specs.Value.{value, whole_in}
@@ -17,24 +16,22 @@ use Rattle.dz_algebra.proofs.Norms.{signed_content_nonzero, value_norm}
 use Rattle.dz_domain.specs.Point.{Coordinates, FitsSignature, IsPoint, symbol_value, value_at}
 use Rattle.dz_domain.proofs.Points.{symbol_is_value}
 use Rattle.dz_domain.proofs.PointValues.{ground_value}
-use Rattle.dz_form.specs.Values.{Polynomials}
 use Rattle.dz_terms.specs.Ranked.{symbols_under}
 use Rattle.dz_terms.proofs.SymbolLaws.{ranking_order}
 use Rattle.dz_rank.specs.Rankings.{RankingValue, ranking_cmp}
 use Rattle.dz_rank.specs.Symbols.{BelongsTo}
 use Rattle.dz_rank.specs.declared.symbols.Symbol.{Symbol}
-use Rattle.dz_run.specs.declared.system.Group.{Group}
-use Rattle.dz_run.specs.declared.system.Group.TheVariants.{Equation, Inequation}
-use Rattle.dz_run.specs.Root.{IsNonsingular, Root, RootNonsingular, Solves, SolvesRoot, chain, closed, has_unit, has_zero, is_closed, is_dropped, is_linear, is_linear_in, is_member, is_unit, is_zero, kept_norms, resting, root_of, same, tree_of_root}
-use Rattle.dz_run.specs.System.{System}
-use Rattle.dz_run.proofs.EqualTests.{and_left, and_right, same_is}
+use Rattle.dz_diff.specs.Lists.{AllOf}
+use Rattle.dz_diff.specs.Over.{IsOver}
+use Rattle.dz_diff.specs.Root.{System, has_unit, has_zero, is_closed, kept_norms, root_of}
+use Rattle.dz_diff.specs.State.{State}
+use Rattle.dz_diff.specs.Tests.{Polynomials, is_member, is_unit, is_zero}
+use Rattle.dz_diff.proofs.Answers.{both, either}
+use Rattle.dz_diff.proofs.Places.{all-append, all_parts}
+use Rattle.dz_diff.proofs.SameTests.{member_is}
+use Rattle.dz_run.specs.Root.{IsNonsingular, Root, RootNonsingular, Solves, SolvesRoot, chain, closed, is_linear, is_linear_in, resting, tree_of_root}
 
 -- ---- tests
--- a disjunction that holds has one of its parts
-or_parts : (a b : Bool) → (a || b) ≡ true → (a ≡ true) ⊎ (b ≡ true)
-or_parts true b e = inl refl
-or_parts false b e = inr e
-
 -- a polynomial that passes the test is zero
 zero_by_test : (p : Polynomial Symbol) → is_zero p ≡ true → p ≡ []
 zero_by_test [] e = refl
@@ -51,11 +48,6 @@ led_not_empty r [] v e h = absurd cc
 led_not_empty r (t ∷ p) v e h = cc
 
 -- ---- lists of polynomials, by recursion
--- each polynomial of a list has the property
-abbrev pub AllOf : (Polynomial Symbol → Type 0) → Polynomials → Type 0
-AllOf P [] = ⊤
-AllOf P (p ∷ ps) = P p × AllOf P ps
-
 module _ (P : Polynomial Symbol → Type 0) where
   -- what holds by index holds by recursion
   pub from_all : (ps : Polynomials) → All P ps → AllOf P ps
@@ -67,71 +59,46 @@ module _ (P : Polynomial Symbol → Type 0) where
   to_all [] h = All-nil P
   to_all (p ∷ ps) h = All-cons P p ps h.0 (to_all ps h.1)
 
-  -- one more behind
-  AllOf-append : (ps : Polynomials) (q : Polynomial Symbol) → AllOf P ps → P q → AllOf P (ps ++ q ∷ [])
-  AllOf-append [] q h k = (k, tt)
-  AllOf-append (p ∷ ps) q h k = (h.0, AllOf-append ps q h.1 k)
-
-  -- those before the last
-  AllOf-front : (ps : Polynomials) (q : Polynomial Symbol) → AllOf P (ps ++ q ∷ []) → AllOf P ps
-  AllOf-front [] q h = tt
-  AllOf-front (p ∷ ps) q h = (h.0, AllOf-front ps q h.1)
-
-  -- the last
-  AllOf-last : (ps : Polynomials) (q : Polynomial Symbol) → AllOf P (ps ++ q ∷ []) → P q
-  AllOf-last [] q h = h.0
-  AllOf-last (p ∷ ps) q h = AllOf-last ps q h.1
-
-  -- a member of the list has the property
-  member_has : (r : RankingValue) (p : Polynomial Symbol) (qs : Polynomials) → is_member (symbols_under r) p qs ≡ true → AllOf P qs → P p
-  member_has r p [] e h = absurd cc
-  member_has r p (q ∷ qs) e h =
-      elim (or_parts (same (symbols_under r) p q) (is_member (symbols_under r) p qs) e) [ inl one ↦ subst P (sym (same_is r p q one)) h.0 | inr more ↦ member_has r p qs more h.1 ]
-
 -- ---- polynomials over a ranking
--- a polynomial is canonical, and its symbols belong to the signature
-pub record IsOver (r : RankingValue) (p : Polynomial Symbol) : Type 0 where
-  pub canonical : IsPolynomial (ranking_cmp r) p
-  pub belongs : PolynomialIn (BelongsTo r.signature) p
-
--- so is its norm
+-- the norm of a polynomial over a ranking is over it
 norm_over : (r : RankingValue) (p : Polynomial Symbol) → IsOver r p → IsOver r (norm p)
 norm_over r p h = record { canonical = norm_is (ranking_cmp r) p h.canonical; belongs = in_norm (ranking_cmp r) (BelongsTo r.signature) p h.belongs }
 
 -- ---- what is kept
-module _ (r : RankingValue) (group : Group) (P : Polynomial Symbol → Type 0) where
+module _ (r : RankingValue) (drops : Polynomial Symbol → Bool) (P : Polynomial Symbol → Type 0) where
   -- a property that passes to norms passes from what is kept and the further members to the result
-  kept_from : ((p : Polynomial Symbol) → IsOver r p → P p → P (norm p)) → (kept ps : Polynomials) → AllOf (IsOver r) ps → AllOf P kept → AllOf P ps → AllOf P (kept_norms (symbols_under r) group kept ps)
+  kept_from : ((p : Polynomial Symbol) → IsOver r p → P p → P (norm p)) → (kept ps : Polynomials) → AllOf (IsOver r) ps → AllOf P kept → AllOf P ps → AllOf P (kept_norms (symbols_under r) drops kept ps)
   kept_from on kept [] over h k = h
   kept_from on kept (p ∷ ps) over h k =
-      elim (is_dropped (symbols_under r) group (norm p) || is_member (symbols_under r) (norm p) kept) as (λ b. AllOf P
-      (if b then kept_norms (symbols_under r) group kept ps else kept_norms (symbols_under r) group (kept ++ norm p ∷ []) ps)) [
+      elim (drops (norm p) || is_member (symbols_under r) (norm p) kept) as (λ b. AllOf P
+      (if b then kept_norms (symbols_under r) drops kept ps else kept_norms (symbols_under r) drops (kept ++ norm p ∷ []) ps)) [
         | true ↦ kept_from on kept ps over.1 h k.1
-        | false ↦ kept_from on (kept ++ norm p ∷ []) ps over.1 (AllOf-append P kept (norm p) h (on p over.0 k.0)) k.1
+        | false ↦ kept_from on (kept ++ norm p ∷ []) ps over.1 (all-append P kept (norm p ∷ []) h (on p over.0 k.0, tt)) k.1
       ]
 
   -- one that passes from norms, and that each dropped polynomial has, passes from the result to what was kept and the further members
-  kept_back : ((p : Polynomial Symbol) → IsOver r p → P (norm p) → P p) → ((p : Polynomial Symbol) → IsOver r p → is_dropped (symbols_under r) group p ≡ true → P p) → (kept ps : Polynomials)
-      → AllOf (IsOver r) ps → AllOf P (kept_norms (symbols_under r) group kept ps) → AllOf P kept × AllOf P ps
+  kept_back : ((p : Polynomial Symbol) → IsOver r p → P (norm p) → P p) → ((p : Polynomial Symbol) → IsOver r p → drops p ≡ true → P p) → (kept ps : Polynomials)
+      → AllOf (IsOver r) ps → AllOf P (kept_norms (symbols_under r) drops kept ps) → AllOf P kept × AllOf P ps
   kept_back back dropped kept [] over h = (h, tt)
   kept_back back dropped kept (p ∷ ps) over h =
-      elim (is_dropped (symbols_under r) group (norm p) || is_member (symbols_under r) (norm p) kept) as (λ b. (is_dropped (symbols_under r) group (norm p) || is_member (symbols_under r) (norm p) kept) ≡ b
-      → AllOf P (if b then kept_norms (symbols_under r) group kept ps else kept_norms (symbols_under r) group (kept ++ norm p ∷ []) ps) → AllOf P kept × AllOf P (p ∷ ps)) [
+      elim (drops (norm p) || is_member (symbols_under r) (norm p) kept) as (λ b. (drops (norm p) || is_member (symbols_under r) (norm p) kept) ≡ b
+      → AllOf P (if b then kept_norms (symbols_under r) drops kept ps else kept_norms (symbols_under r) drops (kept ++ norm p ∷ []) ps) → AllOf P kept × AllOf P (p ∷ ps)) [
         | true ↦ λ w all.
             let rest = kept_back back dropped kept ps over.1 all in
-            let first : P (norm p) = elim (or_parts (is_dropped (symbols_under r) group (norm p)) (is_member (symbols_under r) (norm p) kept) w) [
+            let first : P (norm p) = elim (either (drops (norm p)) (is_member (symbols_under r) (norm p) kept) w) [
               | inl drop ↦ dropped (norm p) (norm_over r p over.0) drop
-              | inr member ↦ member_has P r (norm p) kept member rest.0
+              | inr member ↦ member_is (symbols_under r) (ranking_order r) P (norm p) kept member rest.0
             ] in
             (rest.0, (back p over.0 first, rest.1))
         | false ↦ λ w all.
             let rest = kept_back back dropped (kept ++ norm p ∷ []) ps over.1 all in
-            (AllOf-front P kept (norm p) rest.0, (back p over.0 (AllOf-last P kept (norm p) rest.0), rest.1))
+            let parts = all_parts P kept (norm p ∷ []) rest.0 in
+            (parts.0, (back p over.0 (parts.1).0, rest.1))
       ] refl h
 
 -- what is kept of polynomials over a ranking is over it
-kept_over : (r : RankingValue) (group : Group) (ps : Polynomials) → AllOf (IsOver r) ps → AllOf (IsOver r) (kept_norms (symbols_under r) group [] ps)
-kept_over r group ps over = kept_from r group (IsOver r) (λ p h k. norm_over r p h) [] ps over tt over
+kept_over : (r : RankingValue) (drops : Polynomial Symbol → Bool) (ps : Polynomials) → AllOf (IsOver r) ps → AllOf (IsOver r) (kept_norms (symbols_under r) drops [] ps)
+kept_over r drops ps over = kept_from r drops (IsOver r) (λ p h k. norm_over r p h) [] ps over tt over
 
 -- a whole number that is not zero is not zero in a ring of characteristic zero
 whole_nonzero : {R : Type 0} (r : Ring R) → ((m : ℕ) → copies r.arithmetic (suc m) r.one ≢ r.zero) → (c : ℤ) → c ≢ pos 0 → whole_in r.arithmetic c ≢ r.zero
@@ -174,38 +141,46 @@ module _ (r : RankingValue) {E : Type 0} {o : Operations E} (laws : DomainLaws o
 
   -- by the test
   unit_nonzero : (p : Polynomial Symbol) → IsOver r p → is_unit (symbols_under r) p ≡ true → Differs p
-  unit_nonzero p h w = ground_nonzero p h (and_left (is_ground (symbols_under r) p) _ w) (not_empty p (and_right (is_ground (symbols_under r) p) _ w))
+  unit_nonzero p h w = ground_nonzero p h (both (is_ground (symbols_under r) p) _ w).0 (not_empty p (both (is_ground (symbols_under r) p) _ w).1)
 
   -- the zero polynomial vanishes everywhere
   zero_vanishes : (p : Polynomial Symbol) → is_zero p ≡ true → Vanishes p
   zero_vanishes p w = subst Vanishes (sym (zero_by_test p w)) refl
 
+  -- the system of these equations and inequations
+  abbrev system_of_lists : Polynomials → Polynomials → System
+  system_of_lists es hs = record { equations = es; inequations = hs }
+
+  -- the members of a state
+  abbrev members_of : State → System
+  members_of s = system_of_lists s.equations s.inequations
+
   -- ---- the root
   -- the kept equations vanish exactly where all equations do
-  equations_kept : (ps : Polynomials) → AllOf (IsOver r) ps → AllOf Vanishes ps ↔ AllOf Vanishes (kept_norms (symbols_under r) Equation [] ps)
+  equations_kept : (ps : Polynomials) → AllOf (IsOver r) ps → AllOf Vanishes ps ↔ AllOf Vanishes (kept_norms (symbols_under r) is_zero [] ps)
   equations_kept ps over = (
-    λ h. kept_from r Equation Vanishes (λ p k v. (norm_vanishes p k.canonical).0 v) [] ps over tt h,
-    λ h. (kept_back r Equation Vanishes (λ p k v. (norm_vanishes p k.canonical).1 v) (λ p k w. zero_vanishes p w) [] ps over h).1,
+    λ h. kept_from r is_zero Vanishes (λ p k v. (norm_vanishes p k.canonical).0 v) [] ps over tt h,
+    λ h. (kept_back r is_zero Vanishes (λ p k v. (norm_vanishes p k.canonical).1 v) (λ p k w. zero_vanishes p w) [] ps over h).1,
   )
 
   -- none of the kept inequations vanishes exactly where none of all does
-  inequations_kept : (ps : Polynomials) → AllOf (IsOver r) ps → AllOf Differs ps ↔ AllOf Differs (kept_norms (symbols_under r) Inequation [] ps)
+  inequations_kept : (ps : Polynomials) → AllOf (IsOver r) ps → AllOf Differs ps ↔ AllOf Differs (kept_norms (symbols_under r) (is_unit (symbols_under r)) [] ps)
   inequations_kept ps over = (
-    λ h. kept_from r Inequation Differs (λ p k n v. n ((norm_vanishes p k.canonical).1 v)) [] ps over tt h,
-    λ h. (kept_back r Inequation Differs (λ p k n v. n ((norm_vanishes p k.canonical).0 v)) (λ p k w. unit_nonzero p k w) [] ps over h).1,
+    λ h. kept_from r (is_unit (symbols_under r)) Differs (λ p k n v. n ((norm_vanishes p k.canonical).1 v)) [] ps over tt h,
+    λ h. (kept_back r (is_unit (symbols_under r)) Differs (λ p k n v. n ((norm_vanishes p k.canonical).0 v)) (λ p k w. unit_nonzero p k w) [] ps over h).1,
   )
 
   -- the point solves the root of a system exactly where it solves the system
-  pub root_solved : (s : System) → AllOf (IsOver r) s.equations → AllOf (IsOver r) s.inequations → Solves o c s ↔ Solves o c (root_of (symbols_under r) s)
+  pub root_solved : (s : System) → AllOf (IsOver r) s.equations → AllOf (IsOver r) s.inequations → Solves o c s ↔ Solves o c (members_of (root_of (symbols_under r) s))
   unfolding root_of
   root_solved s es hs = (
     λ h. record {
-      equations = to_all Vanishes (kept_norms (symbols_under r) Equation [] s.equations) ((equations_kept s.equations es).0 (from_all Vanishes s.equations h.equations));
-      inequations = to_all Differs (kept_norms (symbols_under r) Inequation [] s.inequations) ((inequations_kept s.inequations hs).0 (from_all Differs s.inequations h.inequations));
+      equations = to_all Vanishes (kept_norms (symbols_under r) is_zero [] s.equations) ((equations_kept s.equations es).0 (from_all Vanishes s.equations h.equations));
+      inequations = to_all Differs (kept_norms (symbols_under r) (is_unit (symbols_under r)) [] s.inequations) ((inequations_kept s.inequations hs).0 (from_all Differs s.inequations h.inequations));
     },
     λ h. record {
-      equations = to_all Vanishes s.equations ((equations_kept s.equations es).1 (from_all Vanishes (kept_norms (symbols_under r) Equation [] s.equations) h.equations));
-      inequations = to_all Differs s.inequations ((inequations_kept s.inequations hs).1 (from_all Differs (kept_norms (symbols_under r) Inequation [] s.inequations) h.inequations));
+      equations = to_all Vanishes s.equations ((equations_kept s.equations es).1 (from_all Vanishes (kept_norms (symbols_under r) is_zero [] s.equations) h.equations));
+      inequations = to_all Differs s.inequations ((inequations_kept s.inequations hs).1 (from_all Differs (kept_norms (symbols_under r) (is_unit (symbols_under r)) [] s.inequations) h.inequations));
     },
   )
 
@@ -213,16 +188,16 @@ module _ (r : RankingValue) {E : Type 0} {o : Operations E} (laws : DomainLaws o
   -- equations of which one is ground and not zero do not all vanish
   unit_unsolved : (ps : Polynomials) → AllOf (IsOver r) ps → has_unit (symbols_under r) ps ≡ true → AllOf Vanishes ps → ⊥
   unit_unsolved [] over w h = absurd cc
-  unit_unsolved (p ∷ ps) over w h = elim (or_parts (is_unit (symbols_under r) p) (has_unit (symbols_under r) ps) w) [ inl one ↦ unit_nonzero p over.0 one h.0 | inr more ↦ unit_unsolved ps over.1 more h.1 ]
+  unit_unsolved (p ∷ ps) over w h = elim (either (is_unit (symbols_under r) p) (has_unit (symbols_under r) ps) w) [ inl one ↦ unit_nonzero p over.0 one h.0 | inr more ↦ unit_unsolved ps over.1 more h.1 ]
 
   -- of inequations of which one is zero, one vanishes
   zero_unsolved : (ps : Polynomials) → has_zero ps ≡ true → AllOf Differs ps → ⊥
   zero_unsolved [] w h = absurd cc
-  zero_unsolved (p ∷ ps) w h = elim (or_parts (is_zero p) (has_zero ps) w) [ inl one ↦ h.0 (zero_vanishes p one) | inr more ↦ zero_unsolved ps more h.1 ]
+  zero_unsolved (p ∷ ps) w h = elim (either (is_zero p) (has_zero ps) w) [ inl one ↦ h.0 (zero_vanishes p one) | inr more ↦ zero_unsolved ps more h.1 ]
 
   -- no point solves a closed root
-  closed_unsolved : (s : System) → AllOf (IsOver r) s.equations → is_closed (symbols_under r) s ≡ true → Solves o c s → ⊥
-  closed_unsolved s over w h = elim (or_parts (has_unit (symbols_under r) s.equations) (has_zero s.inequations) w) [
+  closed_unsolved : (s : State) → AllOf (IsOver r) s.equations → is_closed (symbols_under r) s ≡ true → Solves o c (members_of s) → ⊥
+  closed_unsolved s over w h = elim (either (has_unit (symbols_under r) s.equations) (has_zero s.inequations) w) [
     | inl unit ↦ unit_unsolved s.equations over unit (from_all Vanishes s.equations h.equations)
     | inr none ↦ zero_unsolved s.inequations none (from_all Differs s.inequations h.inequations)
   ]
@@ -232,13 +207,13 @@ module _ (r : RankingValue) {E : Type 0} {o : Operations E} (laws : DomainLaws o
   linear_degree : (p : Polynomial Symbol) (v : Symbol) → is_linear (symbols_under r) p ≡ true → leader (symbols_under r) p ≡ Some v → degree (ranking_cmp r) v p ≡ 1
   linear_degree p v l e =
       let there : is_linear_in (symbols_under r) p (Some v) ≡ true = subst (λ x. is_linear_in (symbols_under r) p x ≡ true) e l in
-      eqb-true _ _ (and_left _ _ there)
+      eqb-true _ _ (both _ _ there).0
 
   -- and its initial is ground
   linear_initial : (p : Polynomial Symbol) (v : Symbol) → is_linear (symbols_under r) p ≡ true → leader (symbols_under r) p ≡ Some v → is_ground (symbols_under r) (initial (ranking_cmp r) v p) ≡ true
   linear_initial p v l e =
       let there : is_linear_in (symbols_under r) p (Some v) ≡ true = subst (λ x. is_linear_in (symbols_under r) p x ≡ true) e l in
-      and_left _ _ (and_right _ _ there)
+      (both _ _ (both _ _ there).1).0
 
   -- the initial of a linear polynomial vanishes nowhere
   initial_nonzero : (p : Polynomial Symbol) (v : Symbol) → IsOver r p → is_linear (symbols_under r) p ≡ true → leader (symbols_under r) p ≡ Some v → Differs (initial (ranking_cmp r) v p)
@@ -265,10 +240,6 @@ module _ (r : RankingValue) {E : Type 0} {o : Operations E} (laws : DomainLaws o
   abbrev pub Splits : System → Root → Type 0
   Splits s root = (Solves o c s ↔ SolvesRoot o c root) × RootNonsingular (symbols_under r) o c root
 
-  -- the system of these equations and inequations
-  abbrev system_of_lists : Polynomials → Polynomials → System
-  system_of_lists es hs = record { equations = es; inequations = hs }
-
   -- a chain has the solutions of a system of its equations without inequations
   chain_solved : (es : Polynomials) → Solves o c (system_of_lists es []) ↔ SolvesRoot o c (chain es)
   chain_solved es = (λ h. h.equations, λ h. record { equations = h; inequations = All-nil Differs })
@@ -291,13 +262,13 @@ module _ (r : RankingValue) {E : Type 0} {o : Operations E} (laws : DomainLaws o
   resting_splits (p ∷ q ∷ es) hs root over e = absurd cc
 
   -- the tree for a root has its solutions
-  tree_splits : (s : System) (root : Root) → AllOf (IsOver r) s.equations → tree_of_root (symbols_under r) s ≡ Some root → Splits s root
+  tree_splits : (s : State) (root : Root) → AllOf (IsOver r) s.equations → tree_of_root (symbols_under r) s ≡ Some root → Splits (members_of s) root
   unfolding tree_of_root
   tree_splits s root over e =
-      elim (is_closed (symbols_under r) s) as (λ b. is_closed (symbols_under r) s ≡ b → (if b then Some closed else resting (symbols_under r) s.equations s.inequations) ≡ Some root → Splits s root) [
+      elim (is_closed (symbols_under r) s) as (λ b. is_closed (symbols_under r) s ≡ b → (if b then Some closed else resting (symbols_under r) s.equations s.inequations) ≡ Some root → Splits (members_of s) root) [
         | true ↦ λ w k.
             let equal : closed ≡ root = cc in
-            subst (λ x. Splits s x) equal ((λ h. closed_unsolved s over w h, λ h. absurd h), tt)
+            subst (λ x. Splits (members_of s) x) equal ((λ h. closed_unsolved s over w h, λ h. absurd h), tt)
         | false ↦ λ w k. resting_splits s.equations s.inequations root over k
       ] refl e
 
@@ -306,5 +277,5 @@ module _ (r : RankingValue) {E : Type 0} {o : Operations E} (laws : DomainLaws o
   unfolding root_of
   root_has_solutions s root es hs e =
       let solved = root_solved s es hs in
-      let splits = tree_splits (root_of (symbols_under r) s) root (kept_over r Equation s.equations es) e in
+      let splits = tree_splits (root_of (symbols_under r) s) root (kept_over r is_zero s.equations es) e in
       ((λ h. splits.0.0 (solved.0 h), λ h. solved.1 (splits.0.1 h)), splits.1)

@@ -2,6 +2,7 @@
 use Rattle.std.specs.Prelude.{ℕ, Bool, false, nat_le, if◌then◌else◌, List, [], ◌∷◌, map, codes, Option, Some, None, Result, Ok, Err}
 use Rattle.std.specs.Str.{bytes_eq}
 use Rattle.dz_terms.specs.Ranked.{symbols_under}
+use Rattle.dz_diff.specs.Root.{System, root_of}
 use Rattle.dz_form.specs.Texts.{polynomial_text}
 use Rattle.dz_syntax.specs.declared.endings.Form.TheVariants.{Plain}
 use Rattle.dz_syntax.specs.declared.fault.SyntaxFault.{SyntaxFault}
@@ -10,11 +11,11 @@ use Rattle.dz_syntax.specs.Systems.{Tree, system_of}
 use Rattle.dz_run.specs.declared.ending.Ending.{Ending}
 use Rattle.dz_run.specs.declared.ending.Ending.TheVariants.{Done, Syntax, Wide, Large, NotBuilt}
 use Rattle.dz_run.specs.Document.{document}
-use Rattle.dz_run.specs.Root.{Root, chain, closed, root_of, tree_of_root}
+use Rattle.dz_run.specs.Root.{Root, chain, closed, tree_of_root}
 use Rattle.dz_run.specs.declared.system.Refused.{Refused}
 use Rattle.dz_run.specs.declared.system.Refused.TheVariants as refusals
 use Rattle.dz_run.specs.declared.answer.Told.{Told}
-use Rattle.dz_run.specs.System.{System, ranking_of, refused_line, system_answer}
+use Rattle.dz_run.specs.System.{ranking_of, refused_line, system_answer}
 
 -- the words are the one word decompose
 abbrev pub is_decompose : List (List ℕ) → Bool

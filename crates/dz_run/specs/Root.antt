@@ -1,88 +1,25 @@
--- The root of a system, and the tree of one line for a root that needs no work (this project).
-use Rattle.std.specs.Prelude.{◌≡◌, ◌≢◌, ⊤, ◌==◌, ◌&&◌, ◌||◌, not, Bool, true, false, if◌then◌else◌, [], ◌∷◌, ◌++◌, All, ℤ, pos, negsuc, Option, Some, None}
-use Rattle.std.specs.declared.cmp.Ordering.{Ordering}
-use Rattle.std.specs.declared.cmp.Ordering.TheVariants.{Equal}
+-- The tree of one line for a root that needs no work (this project).
+use Rattle.std.specs.Prelude.{◌≡◌, ◌≢◌, ⊤, ◌==◌, ◌&&◌, ◌||◌, not, Bool, true, false, if◌then◌else◌, [], ◌∷◌, All, ℤ, pos, negsuc, Option, Some, None}
 use Rattle.dz_algebra.specs.Domain.{Operations}
-use Rattle.dz_algebra.specs.Monomial.{Monomial, monomial_cmp}
+use Rattle.dz_algebra.specs.Monomial.{Monomial}
 use Rattle.dz_algebra.specs.Polynomial.{Polynomial}
 use Rattle.dz_algebra.specs.Parts.{coefficient_of, degree, initial, is_ground, leader, separant}
-use Rattle.dz_algebra.specs.Norm.{norm}
 use Rattle.dz_algebra.specs.Symbols.{Symbols}
 use Rattle.dz_domain.specs.Point.{Coordinates, value_at}
-use Rattle.dz_form.specs.Values.{Polynomials}
 use Rattle.dz_rank.specs.declared.symbols.Symbol.{Symbol}
 use Rattle.dz_poly.specs.Books.{BookValue}
-use Rattle.dz_run.specs.declared.system.Group.{Group}
-use Rattle.dz_run.specs.declared.system.Group.TheVariants.{Equation, Inequation}
+use Rattle.dz_diff.specs.Root.{System, is_closed}
+use Rattle.dz_diff.specs.State.{State}
+use Rattle.dz_diff.specs.States.{StandsIn, polynomials}
+use Rattle.dz_diff.specs.Tests.{Polynomials, is_zero}
 use Rattle.dz_run.specs.declared.root.Tree.{Tree}
 use Rattle.dz_run.specs.declared.root.Tree.TheVariants as trees
-use Rattle.dz_run.specs.System.{LiveAll, System, polynomials}
-
--- ---- tests of polynomials
--- the polynomial is zero
-abbrev pub is_zero : Polynomial Symbol → Bool
-is_zero [] = true
-is_zero (t ∷ p) = false
-
--- the polynomial is ground and not zero
-abbrev pub is_unit : Symbols Symbol → Polynomial Symbol → Bool
-is_unit g p = is_ground g p && not (is_zero p)
-
--- the order of two equal things
-abbrev pub is_equal : Ordering → Bool
-is_equal Equal = true
-is_equal o = false
-
--- two whole numbers are equal
-abbrev pub same_whole : ℤ → ℤ → Bool
-same_whole (pos m) (pos n) = m == n
-same_whole (negsuc m) (negsuc n) = m == n
-same_whole a b = false
-
--- two polynomials have the same terms
-abbrev pub same : Symbols Symbol → Polynomial Symbol → Polynomial Symbol → Bool
-same g [] [] = true
-same g [] (u ∷ q) = false
-same g (t ∷ p) [] = false
-same g (t ∷ p) (u ∷ q) = (is_equal (monomial_cmp g.cmp t.0 u.0) && same_whole t.1 u.1) && same g p q
-
--- the polynomial stands in a list
-abbrev pub is_member : Symbols Symbol → Polynomial Symbol → Polynomials → Bool
-is_member g p [] = false
-is_member g p (q ∷ qs) = same g p q || is_member g p qs
-
--- ---- the root
--- equations that are zero are dropped, and inequations that are ground and not zero
-abbrev pub is_dropped : Symbols Symbol → Group → Polynomial Symbol → Bool
-is_dropped g Equation p = is_zero p
-is_dropped g Inequation p = is_unit g p
-
--- the norms in their order, without those that are dropped and without repeats; some are kept already
-abbrev pub kept_norms : Symbols Symbol → Group → Polynomials → Polynomials → Polynomials
-kept_norms g group kept [] = kept
-kept_norms g group kept (p ∷ ps) =
-    if is_dropped g group (norm p) || is_member g (norm p) kept then kept_norms g group kept ps else kept_norms g group (kept ++ norm p ∷ []) ps
-
-unfoldable pub root_of : Symbols Symbol → System → System
-root_of g s = record { equations = kept_norms g Equation [] s.equations; inequations = kept_norms g Inequation [] s.inequations }
 
 -- ---- the tree of one line
 -- Its root is closed, or a chain with these equations and no inequation.
 pub data Root : Type 0 where
   closed : Root
   chain : Polynomials → Root
-
-abbrev pub has_unit : Symbols Symbol → Polynomials → Bool
-has_unit g [] = false
-has_unit g (p ∷ ps) = is_unit g p || has_unit g ps
-
-abbrev pub has_zero : Polynomials → Bool
-has_zero [] = false
-has_zero (p ∷ ps) = is_zero p || has_zero ps
-
--- some equation is ground and not zero, or some inequation is zero
-abbrev pub is_closed : Symbols Symbol → System → Bool
-is_closed g s = has_unit g s.equations || has_zero s.inequations
 
 abbrev is_empty : Monomial Symbol → Bool
 is_empty [] = true
@@ -116,20 +53,20 @@ resting g (p ∷ []) [] = if is_linear g p then Some (chain (p ∷ [])) else Non
 resting g es hs = None
 
 -- the tree of one line for a root: closed, or a chain where the root is at rest
-unfoldable pub tree_of_root : Symbols Symbol → System → Option Root
+unfoldable pub tree_of_root : Symbols Symbol → State → Option Root
 tree_of_root g s = if is_closed g s then Some closed else resting g s.equations s.inequations
 
--- the equations of a tree of the code are polynomials of the book
+-- the root of a tree of the code stands in the book
 abbrev pub TreeLives : BookValue → Option Tree → Type 0
 TreeLives book None = ⊤
 TreeLives book (Some trees.Closed) = ⊤
-TreeLives book (Some (trees.Chain ps)) = LiveAll book ps.items
+TreeLives book (Some (trees.Chain s)) = StandsIn book s
 
 -- what a tree of the code is
 abbrev pub tree_in : BookValue → Option Tree → Option Root
 tree_in book None = None
 tree_in book (Some trees.Closed) = Some closed
-tree_in book (Some (trees.Chain ps)) = Some (chain (polynomials book ps.items))
+tree_in book (Some (trees.Chain s)) = Some (chain (polynomials book s.equations))
 
 -- ---- at a point
 -- every equation has value zero, and no inequation has

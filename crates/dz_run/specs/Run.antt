@@ -8,12 +8,13 @@ use Rattle.dz_outside.specs.Writing.{AppendsPart}
 use Rattle.dz_algebra.specs.Domain.{Operations}
 use Rattle.dz_domain.specs.Point.{Coordinates, FitsSignature}
 use Rattle.dz_terms.specs.Ranked.{symbols_under}
+use Rattle.dz_diff.specs.Root.{System}
 use Rattle.dz_syntax.specs.declared.endings.Form.TheVariants.{Plain}
 use Rattle.dz_syntax.specs.SystemGrammar.{IsSystem}
 use Rattle.dz_syntax.specs.Systems.{Tree}
 use Rattle.dz_run.specs.Answer.{Answer, answer_to, built, document_of, is_decompose}
 use Rattle.dz_run.specs.Root.{Root, RootNonsingular, Solves, SolvesRoot}
-use Rattle.dz_run.specs.System.{System, ranking_of, system_answer}
+use Rattle.dz_run.specs.System.{ranking_of, system_answer}
 use Rattle.dz_run.specs.declared.ending.Ending.{Ending}
 use Rattle.dz_run.specs.declared.ending.Ending.TheVariants.{ReadFault, WriteFault, WriteStuck, NoMemory, TooLong, NotBuilt}
 

@@ -1,31 +1,29 @@
 -- The polynomials of a system, or the item for which there are none (this project).
-use Rattle.std.specs.Prelude.{◌≡◌, ⊤, All, map, ℕ, ◌+◌, nat_lt, if◌then◌else◌, List, [], ◌∷◌, ◌++◌, length, codes, Result, Ok, Err}
+use Rattle.std.specs.Prelude.{◌≡◌, ⊤, ℕ, ◌+◌, List, [], ◌∷◌, ◌++◌, codes, Option, Some, None, Result, Ok, Err}
 use Rattle.std.specs.Fmt.{decimal}
 use Rattle.dz_algebra.specs.declared.Limit.{Limit}
 use Rattle.dz_algebra.specs.declared.Limit.TheVariants as limits
 use Rattle.dz_algebra.specs.Polynomial.{Polynomial}
 use Rattle.dz_algebra.specs.Size.{Refusal, wide, large}
 use Rattle.dz_algebra.specs.Symbols.{Symbols}
-use Rattle.dz_form.specs.Values.{◌>>=◌, Polynomials, item_answer}
+use Rattle.dz_form.specs.Values.{◌>>=◌, item_answer}
 use Rattle.dz_rank.specs.Rankings.{RankingValue}
 use Rattle.dz_rank.specs.declared.symbols.Symbol.{Symbol}
 use Rattle.dz_terms.specs.Ranked.{symbols_under}
 use Rattle.dz_syntax.specs.declared.expression.Op.{Op}
 use Rattle.dz_syntax.specs.Systems.{Tree}
-use Rattle.dz_poly.specs.Books.{BookValue, Lives, Means, polynomial}
+use Rattle.dz_poly.specs.Books.{BookValue, Means}
+use Rattle.dz_diff.specs.Root.{System}
+use Rattle.dz_diff.specs.States.{MeanAll}
+use Rattle.dz_diff.specs.Tests.{Polynomials}
+use Rattle.dz_tree.specs.Systems.{IsSystemIn, SystemValue, system_in, system_limit}
 use Rattle.dz_run.specs.declared.system.Group.{Group}
 use Rattle.dz_run.specs.declared.system.Refused.{Refused}
 use Rattle.dz_run.specs.declared.system.Refused.TheVariants.{Wide, Large, TooMany}
 use Rattle.dz_run.specs.declared.system.Stop.{Stop}
 use Rattle.dz_run.specs.declared.system.Stop.TheVariants.{Memory}
 use Rattle.dz_run.specs.declared.system.Stop.TheVariants as stops
-use Rattle.dz_run.specs.declared.system.System as code
 use Rattle.dz_run.specs.declared.system.Group.TheVariants.{Equation, Inequation}
-
--- the values of the equations and of the inequations, in their order
-pub record System : Type 0 where
-  pub equations : Polynomials
-  pub inequations : Polynomials
 
 -- the ranking that a text declares
 abbrev pub ranking_of : Tree → RankingValue
@@ -52,17 +50,14 @@ abbrev pub items_answer : Symbols Symbol → Group → ℕ → List (List Op) �
 items_answer g group n [] = Ok []
 items_answer g group n (steps ∷ items) = numbered group (n + 1) (item_answer g steps) >>= λ p. before p (items_answer g group (n + 1) items)
 
--- the number of terms in polynomials
-abbrev pub terms_of : Polynomials → ℕ
-terms_of [] = 0
-terms_of (p ∷ ps) = length p + terms_of ps
+-- a system, or the limit that it passes
+abbrev pub or_limit : System → Option Limit → Result System Refused
+or_limit s None = Ok s
+or_limit s (Some limit) = Err (TooMany limit)
 
--- a system has at most 256 members, and at most 65,536 terms in them together
+-- the system of these values, where it passes no limit
 abbrev pub within_limits : Polynomials → Polynomials → Result System Refused
-within_limits es hs =
-    if nat_lt 256 (length es + length hs) then Err (TooMany limits.Polynomials)
-    else if nat_lt 65536 (terms_of es + terms_of hs) then Err (TooMany limits.Node)
-    else Ok (record { equations = es; inequations = hs })
+within_limits es hs = or_limit (record { equations = es; inequations = hs }) (system_limit (record { equations = es; inequations = hs }))
 
 -- the system of a text: its items are expanded in order, the equations first
 unfoldable pub system_answer : Tree → Result System Refused
@@ -92,19 +87,6 @@ refused_line (Large group n limit) = group_name group ++ decimal n ++ codes " la
 refused_line (TooMany limit) = codes "system large " ++ limit_name limit ++ codes "\n"
 
 -- ---- in a book
--- every number means a polynomial of the book
-abbrev pub LiveAll : BookValue → List ℕ → Type 0
-LiveAll book ps = All (λ p. Lives book p) ps
-
--- the polynomials of numbers
-abbrev pub polynomials : BookValue → List ℕ → Polynomials
-polynomials book ps = map (λ p. polynomial book p) ps
-
--- the numbers mean these polynomials
-pub record MeanAll (book : BookValue) (ps : List ℕ) (qs : Polynomials) : Type 0 where
-  pub live : LiveAll book ps
-  pub are : polynomials book ps ≡ qs
-
 -- the stop is the refusal, or memory ran out
 abbrev pub IsRefusal : {A : Type 0} → Stop → Result A Refused → Type 0
 IsRefusal Memory answer = ⊤
@@ -122,17 +104,8 @@ GivesAll view book (Ok x) (Ok qs) = MeanAll book (view x) qs
 GivesAll view book (Ok x) (Err e) = ⊥
 GivesAll view book (Err stop) answer = IsRefusal stop answer
 
--- the lists of a system of the code mean polynomials of the book
-pub record LivesSystem (book : BookValue) (s : code.System) : Type 0 where
-  pub equations : LiveAll book s.equations.items
-  pub inequations : LiveAll book s.inequations.items
-
--- and they are the lists of this system
-abbrev pub system_in : BookValue → code.System → System
-system_in book s = record { equations = polynomials book s.equations.items; inequations = polynomials book s.inequations.items }
-
--- a system of the code means that of an answer
-abbrev pub GivesSystem : BookValue → Result code.System Stop → Result System Refused → Type 0
-GivesSystem book (Ok s) (Ok t) = LivesSystem book s × (system_in book s ≡ t)
+-- a system of the code is one in the book, and means that of an answer
+abbrev pub GivesSystem : BookValue → Result SystemValue Stop → Result System Refused → Type 0
+GivesSystem book (Ok s) (Ok t) = IsSystemIn book s × (system_in book s ≡ t)
 GivesSystem book (Ok s) (Err e) = ⊥
 GivesSystem book (Err stop) answer = IsRefusal stop answer

@@ -4,15 +4,17 @@ ghost use Rattle.dz_syntax.specs.Names.{signature_of};
 ghost use Rattle.dz_syntax.specs.Systems.{HasExpressions, tree_of};
 ghost use Rattle.dz_run.specs.Answer.{answer_of, answer_to, built, built_answer, is_decompose, refused_ending, silent, system_told};
 ghost use Rattle.dz_run.specs.Root.{TreeLives, tree_in};
-ghost use Rattle.dz_run.specs.System.{LivesSystem, ranking_of, system_answer, system_in};
+ghost use Rattle.dz_run.specs.System.{ranking_of, system_answer};
+ghost use Rattle.dz_tree.specs.Systems.{IsSystemIn, system_in};
 
 use crate::document::{chain_document, closed_document};
 use crate::ending::Ending;
-use crate::root::{Tree, root_of, tree_of_root};
-use crate::system::{Refused, Stop, System, refused_line, system_of};
+use crate::root::{Tree, tree_of_root};
+use crate::system::{Refused, Stop, refused_line, system_of};
 use dz_poly::Book;
 use dz_rank::{RankFault, Ranking};
 use dz_syntax::{Form, Names, SyntaxKind, SystemTree, read_system};
+use dz_tree::{System, root};
 use std::alloc::{AllocError, Global};
 
 /// The most weight that a tree may have where the words name no budget.
@@ -69,7 +71,7 @@ fn built(
     system: &System,
 ) -> Result<Option<Tree>, AllocError>
     requires ranking { book.old.ranking ≡ ranking_of (tree_of tree.now) }
-    requires lives { LivesSystem book.old system.now }
+    requires stands { IsSystemIn book.old system.now }
     ensures lives { IfOk result (λ o. TreeLives book.new o) }
     ensures value { IfOk result (λ o. tree_in book.new o ≡ built (tree_of tree.now) (system_in book.old system.now)) }
     ensures ranking { OnOk result (book.new.ranking ≡ book.old.ranking) }
@@ -77,8 +79,8 @@ fn built(
     if tree.signature.independents > 1 {
         return Ok(None);
     }
-    let root = root_of(alloc, book, system)?;
-    let tree = tree_of_root(book, root)?;
+    let state = root(alloc, book, system)?;
+    let tree = tree_of_root(book, state)?;
     Ok(tree)
 }
 
@@ -96,8 +98,8 @@ fn built_answer(
     let output = match tree {
         None => return Ok(Told::silent(alloc, Ending::NotBuilt)),
         Some(Tree::Closed) => closed_document(alloc, DEFAULT_BUDGET)?,
-        Some(Tree::Chain(equations)) => {
-            chain_document(alloc, DEFAULT_BUDGET, names, book, &equations)?
+        Some(Tree::Chain(state)) => {
+            chain_document(alloc, DEFAULT_BUDGET, names, book, state.equations())?
         }
     };
     Ok(Told {

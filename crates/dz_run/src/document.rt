@@ -4,7 +4,7 @@ ghost use Rattle.dz_form.specs.Texts.{polynomial_text};
 ghost use Rattle.dz_syntax.specs.Names.{signature_of};
 ghost use Rattle.dz_run.specs.Document.{ChainTexts, document, head_lines, line, lines_of};
 ghost use Rattle.dz_poly.specs.Books.{Lives, polynomial};
-ghost use Rattle.dz_run.specs.System.{LiveAll, polynomials};
+ghost use Rattle.dz_diff.specs.States.{LiveAll, polynomials};
 
 use dz_form::write_poly;
 use dz_poly::{Book, Poly};

@@ -1,17 +1,17 @@
 // The polynomials of a system: its items are expanded in order.
-ghost use Rattle.std.specs.Prelude.{◌≡◌, ◌++◌, ◌+◌, ◌-◌, ◌^◌, All, IfOk, OnOk, min, decimal};
+ghost use Rattle.std.specs.Prelude.{◌≡◌, ◌++◌, All, IfOk, OnOk, decimal};
 ghost use Rattle.dz_form.specs.Values.{item_answer};
 ghost use Rattle.dz_poly.specs.Books.{IsKept};
 ghost use Rattle.dz_terms.specs.Ranked.{symbols_under};
 ghost use Rattle.dz_syntax.specs.Postfix.{IsExpression};
 ghost use Rattle.dz_syntax.specs.Systems.{HasExpressions, tree_of};
-ghost use Rattle.dz_run.specs.System.{GivesAll, GivesNumbered, GivesSystem, LiveAll, polynomials};
+ghost use Rattle.dz_run.specs.System.{GivesAll, GivesNumbered, GivesSystem};
 ghost use Rattle.dz_run.specs.System.{group_name, items_answer, limit_name, numbered, ranking_of, refused_line, system_answer};
-ghost use Rattle.dz_run.specs.System.{terms_of, within_limits};
 
 use dz_form::expand;
-use dz_poly::{Book, Limit, Poly, PolyStop, term_count};
+use dz_poly::{Book, Limit, Poly, PolyStop};
 use dz_syntax::{Item, SystemTree};
+use dz_tree::System;
 use itoa::Buffer;
 use std::alloc::{AllocError, AllocFailed, Global};
 
@@ -62,13 +62,6 @@ impl<T: Drop> From<AllocFailed<T>> for Stop {
     }
 }
 
-/// The polynomials of a system, by their names in a book.
-#[derive(Drop)]
-pub(crate) struct System {
-    pub equations: Vec<Poly>,
-    pub inequations: Vec<Poly>,
-}
-
 /// The value of the item with this number in its group.
 fn expand_numbered(book: &mut Book, group: Group, number: usize, item: &Item) -> Result<Poly, Stop>
     requires { IsExpression book.old.ranking.signature item.now }
@@ -102,39 +95,6 @@ fn expand_items(
     Ok(polys)
 }
 
-/// The number of terms in polynomials, up to the greatest number that a `usize` has.
-fn terms_of(book: &Book, polys: &[Poly]) -> usize
-    requires { LiveAll book.now polys.now }
-    ensures { result ≡ min (terms_of (polynomials book.now polys.now)) (2 ^ 64 - 1) }
-{
-    let mut terms = 0usize;
-    'polys: for p in polys {
-        terms = terms.saturating_add(term_count(book, *p));
-    }
-    terms
-}
-
-/// Puts polynomials together to a system, where it passes no limit: at most 256 members, and at
-/// most 65,536 terms.
-fn within_limits(book: &Book, equations: Vec<Poly>, inequations: Vec<Poly>) -> Result<System, Stop>
-    requires equations { LiveAll book.now equations.items }
-    requires inequations { LiveAll book.now inequations.items }
-    ensures { GivesSystem book.now result (within_limits
-        (polynomials book.now equations.items) (polynomials book.now inequations.items)) }
-{
-    if equations.len() > 256 || inequations.len() > 256 - equations.len() {
-        return Err(Stop::Refused(Refused::TooMany(Limit::Polynomials)));
-    }
-    let terms = terms_of(book, &equations).saturating_add(terms_of(book, &inequations));
-    if terms > 65_536 {
-        return Err(Stop::Refused(Refused::TooMany(Limit::Node)));
-    }
-    Ok(System {
-        equations,
-        inequations,
-    })
-}
-
 /// The system of a text: the equations are expanded first, and the items of each group in order.
 #[tactic(auto, unfolding(crate::specs::System::system_answer))]
 pub(crate) fn system_of(alloc: Global, book: &mut Book, tree: &SystemTree) -> Result<System, Stop>
@@ -145,8 +105,10 @@ pub(crate) fn system_of(alloc: Global, book: &mut Book, tree: &SystemTree) -> Re
 {
     let equations = expand_items(alloc, book, Group::Equation, &tree.equations)?;
     let inequations = expand_items(alloc, book, Group::Inequation, &tree.inequations)?;
-    let system = within_limits(book, equations, inequations)?;
-    Ok(system)
+    match System::new(book, equations, inequations) {
+        Ok(system) => Ok(system),
+        Err(limit) => Err(Stop::Refused(Refused::TooMany(limit))),
+    }
 }
 
 /// The word for a group.

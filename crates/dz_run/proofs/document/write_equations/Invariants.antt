@@ -1,7 +1,7 @@
 use Rattle.std.proofs.Common.{◌≡◌, ◌++◌, codes, map, drop}
 use Rattle.dz_form.specs.Texts.{polynomial_text}
 use Rattle.dz_run.specs.Document.{lines_of}
-use Rattle.dz_run.specs.System.{polynomials}
+use Rattle.dz_diff.specs.States.{polynomials}
 use Rattle.dz_run.proofs.document.write_equations.Given as goal
 
 abbrev pub invariant-equations : goal.invariant-equations

@@ -1,7 +1,7 @@
 use Rattle.std.proofs.Common.{◌≡◌, drop}
 use Rattle.dz_terms.specs.Ranked.{symbols_under}
-use Rattle.dz_run.specs.Root.{has_unit}
-use Rattle.dz_run.specs.System.{polynomials}
+use Rattle.dz_diff.specs.Root.{has_unit}
+use Rattle.dz_diff.specs.States.{polynomials}
 use Rattle.dz_run.proofs.root.has_unit.Given as goal
 
 abbrev pub invariant-polys : goal.invariant-polys

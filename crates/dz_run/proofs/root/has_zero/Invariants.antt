@@ -1,6 +1,6 @@
 use Rattle.std.proofs.Common.{◌≡◌, drop}
-use Rattle.dz_run.specs.Root.{has_zero}
-use Rattle.dz_run.specs.System.{polynomials}
+use Rattle.dz_diff.specs.Root.{has_zero}
+use Rattle.dz_diff.specs.States.{polynomials}
 use Rattle.dz_run.proofs.root.has_zero.Given as goal
 
 abbrev pub invariant-polys : goal.invariant-polys
