@@ -1,34 +1,20 @@
 -- A state in a book stays the same while polynomials are only added to the book.
-use Rattle.std.proofs.Common.{◌≡◌, ap₂, refl, ℕ, zero, suc, List, [], ◌∷◌}
-use Rattle.std.specs.Prelude.{slice_get, slice_index_or}
+use Rattle.std.proofs.Common.{◌≡◌, ap₂, refl, ℕ, List, [], ◌∷◌}
 use Rattle.std.proofs.lemmas.List.Elements.{All-head, All-tail, All-weaker}
 use Rattle.dz_algebra.specs.Polynomial.{Polynomial}
 use Rattle.dz_rank.specs.declared.symbols.Symbol.{Symbol}
-use Rattle.dz_poly.specs.Books.{BookValue, IsKept, Lives, polynomial}
-use Rattle.dz_poly.proofs.Books.{lives_on}
+use Rattle.dz_poly.specs.Books.{BookValue, IsKept, Lives}
+use Rattle.dz_poly.proofs.Books.{kept_polynomial, lives_on}
 use Rattle.std.specs.List.{IsDistinct}
 use Rattle.dz_terms.specs.Ranked.{symbols_under}
 use Rattle.dz_diff.specs.States.{IsStateOf, LiveAll, StandsIn, StateValue, polynomials, state_in}
 use Rattle.dz_diff.specs.Tests.{Polynomials}
 
 module _ (old new : BookValue) (kept : IsKept old new) where
-  -- a polynomial that was there before is the same
-  pub kept_polynomial : (p : ℕ) → Lives old p → polynomial new p ≡ polynomial old p
-  kept_polynomial p inside = same_at new.polynomials old.polynomials p (kept.each p inside)
-    where
-      same_at : (xs ys : Polynomials) (k : ℕ) → slice_get xs k ≡ slice_get ys k → slice_index_or xs k [] ≡ slice_index_or ys k []
-      same_at [] [] k e = refl
-      same_at [] (y ∷ ys) zero e = absurd cc
-      same_at [] (y ∷ ys) (suc k) e = same_at [] ys k e
-      same_at (x ∷ xs) [] zero e = absurd cc
-      same_at (x ∷ xs) [] (suc k) e = same_at xs [] k e
-      same_at (x ∷ xs) (y ∷ ys) zero e = cc
-      same_at (x ∷ xs) (y ∷ ys) (suc k) e = same_at xs ys k e
-
-  -- and so are those of a list
+  -- polynomials that were there before are the same
   pub kept_polynomials : (ps : List ℕ) → LiveAll old ps → polynomials new ps ≡ polynomials old ps
   kept_polynomials [] live = refl
-  kept_polynomials (p ∷ ps) live = ap₂ (λ (q : Polynomial Symbol) (qs : Polynomials). q ∷ qs) (kept_polynomial p (All-head (λ p. Lives old p) p ps live)) (kept_polynomials ps (All-tail (λ p. Lives old p) p ps live))
+  kept_polynomials (p ∷ ps) live = ap₂ (λ (q : Polynomial Symbol) (qs : Polynomials). q ∷ qs) (kept_polynomial old new p kept (All-head (λ p. Lives old p) p ps live)) (kept_polynomials ps (All-tail (λ p. Lives old p) p ps live))
 
   -- numbers that live go on living
   pub live_on : (ps : List ℕ) → LiveAll old ps → LiveAll new ps

@@ -16,7 +16,7 @@ use Rattle.dz_syntax.specs.declared.expression.Op.{Op}
 use Rattle.dz_syntax.specs.declared.expression.Op.TheVariants.{Number, Symbol, Negate, Add, Sub, Mul, Power}
 use Rattle.dz_syntax.specs.Postfix.{values_after}
 use Rattle.dz_form.specs.Values.{◌>>=◌, GivesValues, HasValues, Polynomials, item_answer, latest, onto, power_answer, step_answer, steps_answer, values_in}
-use Rattle.dz_form.proofs.Stacks.{means_polynomial}
+use Rattle.dz_poly.proofs.Books.{means_polynomial}
 
 -- a step that goes on finds its values
 pub enough : (n : ℕ) (op : Op) (rest : List Op) (m : ℕ) → values_after n (op ∷ rest) ≡ Some m → HasValues op n

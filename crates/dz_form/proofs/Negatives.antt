@@ -10,7 +10,8 @@ use Rattle.dz_poly.proofs.Books.{kept_trans}
 use Rattle.dz_syntax.specs.declared.expression.Op.TheVariants as ops
 use Rattle.dz_form.specs.Values.{GivesValues, step_answer, values_in}
 use Rattle.dz_form.proofs.Keeping.{nothing_less}
-use Rattle.dz_form.proofs.Stacks.{kept_polynomial, means_polynomial, one_refused, one_replaced}
+use Rattle.dz_poly.proofs.Books.{kept_polynomial, means_polynomial}
+use Rattle.dz_form.proofs.Stacks.{one_refused, one_replaced}
 
 -- what nothing less the latest value is
 difference_is : (old mid : BookValue) (latest nothing : ℕ) → IsBook old → latest + 0 + 1 ≡ length old.polynomials → IsKept old mid → Means mid nothing []

@@ -1,6 +1,6 @@
 -- The latest polynomials of a book, and what comes in their place.
-use Rattle.std.proofs.Common.{◌≡◌, ◌<◌, ◌≤◌, ◌+◌, ◌∙◌, sym, ap, subst, ℕ, zero, suc, [], ◌∷◌, ◌++◌, length, take, reverse, Result, Ok, Err, Some, arith, refl, inl, inr}
-use Rattle.std.specs.Prelude.{slice_get, slice_index_or, unsigned_abs, ◌^◌}
+use Rattle.std.proofs.Common.{◌≡◌, ◌<◌, ◌≤◌, ◌+◌, ◌∙◌, sym, ap, subst, ℕ, [], ◌∷◌, ◌++◌, length, take, reverse, Result, Ok, Err, arith, inl, inr}
+use Rattle.std.specs.Prelude.{slice_index_or, unsigned_abs, ◌^◌}
 use Rattle.std.proofs.Common.{ℤ, pos, to_z, of_z}
 use Rattle.std.specs.Int.{w128}
 use Rattle.std.proofs.lemmas.Int.{fits_signed_from_abs, to_z-of_z}
@@ -10,18 +10,10 @@ use Rattle.dz_algebra.specs.Polynomial.{Polynomial}
 use Rattle.dz_algebra.specs.Size.{Refusal}
 use Rattle.dz_rank.specs.declared.symbols.Symbol.{Symbol}
 use Rattle.dz_poly.specs.Books.{BookValue, Gives, IsAdded, IsKept, Means, polynomial}
+use Rattle.dz_poly.proofs.Books.{means_polynomial}
 use Rattle.dz_terms.specs.Stops.{IsStop}
 use Rattle.dz_terms.specs.declared.PolyStop.{PolyStop}
 use Rattle.dz_form.specs.Values.{GivesValues, Polynomials, onto, values_in}
-
--- the polynomial that a number means
-pub means_polynomial : (book : BookValue) (p : ℕ) (q : Polynomial Symbol) → Means book p q → polynomial book p ≡ q
-means_polynomial book p q e = meant book.polynomials p e
-  where
-    meant : (xs : Polynomials) (k : ℕ) → slice_get xs k ≡ Some q → slice_index_or xs k [] ≡ q
-    meant [] k e = absurd cc
-    meant (x ∷ xs) zero e = cc
-    meant (x ∷ xs) (suc k) e = meant xs k e
 
 -- a list from its last element on
 pub latest_first : (xs : Polynomials) (k : ℕ) → k + 1 ≡ length xs → reverse xs ≡ slice_index_or xs k [] ∷ reverse (take k xs)
@@ -40,19 +32,6 @@ latest_two xs k l e f =
     ∙ ap (λ (n : ℕ). slice_index_or xs l [] ∷ reverse (take n xs)) same
     ∙ ap (λ (ys : Polynomials). slice_index_or xs l [] ∷ reverse ys) (take_more xs k [] inside)
     ∙ ap (λ (ys : Polynomials). slice_index_or xs l [] ∷ ys) (reverse-append (take k xs) (slice_index_or xs k [] ∷ []))
-
--- a polynomial that was there before is the same
-pub kept_polynomial : (old new : BookValue) (p : ℕ) → IsKept old new → p < length old.polynomials → polynomial new p ≡ polynomial old p
-kept_polynomial old new p kept inside = same new.polynomials old.polynomials p (kept.each p inside)
-  where
-    same : (xs ys : Polynomials) (k : ℕ) → slice_get xs k ≡ slice_get ys k → slice_index_or xs k [] ≡ slice_index_or ys k []
-    same [] [] k e = refl
-    same [] (y ∷ ys) zero e = absurd cc
-    same [] (y ∷ ys) (suc k) e = same [] ys k e
-    same (x ∷ xs) [] zero e = absurd cc
-    same (x ∷ xs) [] (suc k) e = same xs [] k e
-    same (x ∷ xs) (y ∷ ys) zero e = cc
-    same (x ∷ xs) (y ∷ ys) (suc k) e = same xs ys k e
 
 -- what an operation made has come in the place of the values from one on
 pub put_in_place : (old made new : BookValue) (first p : ℕ) (answer : Result (Polynomial Symbol) Refusal) → first ≤ length old.polynomials → IsKept old made → Gives made (Ok p) answer

@@ -1,7 +1,6 @@
 -- The products of a power, one after the other.
 use Rattle.std.proofs.Common.{◌≡◌, ◌<◌, ◌≤◌, ◌+◌, ◌-◌, ◌∙◌, sym, ap, subst, ℕ, zero, suc, [], ◌∷◌, ◌++◌, length, take, Result, Ok, Err, Some, pos, arith, refl, inl, inr}
 use Rattle.std.specs.Prelude.{slice_get}
-use Rattle.std.proofs.lemmas.List.{take_all}
 use Rattle.std.proofs.lemmas.Option.{slice_get-get_or}
 use Rattle.dz_algebra.specs.Polynomial.{Polynomial}
 use Rattle.dz_algebra.specs.Size.{Refusal, product_answer}
@@ -12,8 +11,7 @@ use Rattle.dz_terms.specs.Stops.{IsStop}
 use Rattle.dz_terms.specs.declared.PolyStop.{PolyStop}
 use Rattle.dz_terms.specs.Terms.{constant_polynomial}
 use Rattle.dz_terms.specs.Ranked.{symbols_under}
-use Rattle.dz_poly.proofs.Books.{IsKept-append, kept_trans}
-use Rattle.dz_form.proofs.Stacks.{kept_polynomial, means_polynomial}
+use Rattle.dz_poly.proofs.Books.{IsKept-append, kept_polynomial, kept_trans, means_polynomial}
 use Rattle.dz_form.specs.Values.{◌>>=◌, Polynomials, power_answer, times}
 
 module _ (g : Symbols Symbol) (a : Polynomial Symbol) where
@@ -64,15 +62,6 @@ pub answered : (book : BookValue) (p : ℕ) (answer : Result (Polynomial Symbol)
 answered book p (Ok q) given = (q, given, refl)
 answered book p (Err e) given = absurd given
 
-lives : (xs : Polynomials) (k : ℕ) (q : Polynomial Symbol) → slice_get xs k ≡ Some q → k < length xs
-lives [] k q e = absurd cc
-lives (x ∷ xs) zero q e = omega arith
-lives (x ∷ xs) (suc k) q e = let h = lives xs k q e in omega arith
-
--- what a number means lives
-pub means_lives : (book : BookValue) (p : ℕ) (q : Polynomial Symbol) → Means book p q → Lives book p
-means_lives book p q e = lives book.polynomials p q e
-
 -- a number that lives means its polynomial
 pub means_itself : (book : BookValue) (p : ℕ) → Lives book p → Means book p (polynomial book p)
 means_itself book p inside = slice_get-get_or book.polynomials p [] inside
@@ -91,10 +80,6 @@ kept_but_one old made new mark p e kept is =
     last_there : (xs : Polynomials) (x : Polynomial Symbol) → slice_get (xs ++ x ∷ []) (length xs) ≡ Some x
     last_there [] x = refl
     last_there (y ∷ xs) x = last_there xs x
-
--- a book keeps itself
-pub kept_itself : (book : BookValue) → IsKept book book
-kept_itself book = record { ranking = refl; each = λ p inside. refl; later = omega arith; front = take_all (length book.polynomials) book.polynomials (omega arith) }
 
 -- the product of the values of two numbers is that of the values that they had before
 same_product : (old now : BookValue) (base product : ℕ) (q : Polynomial Symbol) → Lives old base → Means now product q → IsKept old now

@@ -1,14 +1,14 @@
 -- Books that only grow.
 use Rattle.std.proofs.Common.{◌≡◌, ◌<◌, ◌≤◌, ◌∙◌, sym, ap, ℕ, zero, suc, List, [], ◌∷◌, ◌++◌, length, take, arith, refl}
 use Rattle.std.specs.Prelude.{slice_get, slice_index_or, slice_set, Some, map, swap, ◌+◌}
-use Rattle.std.proofs.lemmas.List.{length-append, length-set, take_at, take-set-le, take_more, map-append, take-map, get_or-map}
+use Rattle.std.proofs.lemmas.List.{length-append, length-set, take_all, take_at, take-set-le, take_more, map-append, take-map, get_or-map}
 use Rattle.dz_algebra.specs.Polynomial.{Polynomial}
 use Rattle.dz_rank.specs.declared.symbols.Symbol.{Symbol}
 use Rattle.dz_rank.specs.Rankings.{RankingValue}
 use Rattle.std.specs.Prelude.{All}
 use Rattle.std.proofs.lemmas.List.Elements.{All-map, All-set, All-weaker}
 use Rattle.dz_terms.specs.declared.entry.Entry.{Entry}
-use Rattle.dz_poly.specs.Books.{BookValue, IsKept, IsBook}
+use Rattle.dz_poly.specs.Books.{BookValue, IsKept, IsBook, Lives, Means, polynomial}
 use Rattle.dz_terms.specs.Entries.{IsKeepable}
 use Rattle.dz_terms.specs.Entries.{IsEntry}
 
@@ -71,3 +71,38 @@ kept_trans a b c h g = record {
 -- a polynomial that lives goes on living
 pub lives_on : (a b : BookValue) (p : ℕ) → IsKept a b → p < length a.polynomials → p < length b.polynomials
 lives_on a b p h l = let m = h.later in omega arith
+
+-- what a number means lives
+pub means_lives : (book : BookValue) (p : ℕ) (q : Polynomial Symbol) → Means book p q → Lives book p
+means_lives book p q e = lives book.polynomials p e
+  where
+    lives : (xs : List (Polynomial Symbol)) (k : ℕ) → slice_get xs k ≡ Some q → k < length xs
+    lives [] k e = absurd cc
+    lives (x ∷ xs) zero e = omega arith
+    lives (x ∷ xs) (suc k) e = let h = lives xs k e in omega arith
+
+-- the polynomial that a number means
+pub means_polynomial : (book : BookValue) (p : ℕ) (q : Polynomial Symbol) → Means book p q → polynomial book p ≡ q
+means_polynomial book p q e = meant book.polynomials p e
+  where
+    meant : (xs : List (Polynomial Symbol)) (k : ℕ) → slice_get xs k ≡ Some q → slice_index_or xs k [] ≡ q
+    meant [] k e = absurd cc
+    meant (x ∷ xs) zero e = cc
+    meant (x ∷ xs) (suc k) e = meant xs k e
+
+-- a polynomial that was there before is the same
+pub kept_polynomial : (old new : BookValue) (p : ℕ) → IsKept old new → Lives old p → polynomial new p ≡ polynomial old p
+kept_polynomial old new p kept inside = same new.polynomials old.polynomials p (kept.each p inside)
+  where
+    same : (xs ys : List (Polynomial Symbol)) (k : ℕ) → slice_get xs k ≡ slice_get ys k → slice_index_or xs k [] ≡ slice_index_or ys k []
+    same [] [] k e = refl
+    same [] (y ∷ ys) zero e = absurd cc
+    same [] (y ∷ ys) (suc k) e = same [] ys k e
+    same (x ∷ xs) [] zero e = absurd cc
+    same (x ∷ xs) [] (suc k) e = same xs [] k e
+    same (x ∷ xs) (y ∷ ys) zero e = cc
+    same (x ∷ xs) (y ∷ ys) (suc k) e = same xs ys k e
+
+-- a book keeps itself
+pub kept_itself : (book : BookValue) → IsKept book book
+kept_itself book = record { ranking = refl; each = λ p inside. refl; later = omega arith; front = take_all (length book.polynomials) book.polynomials (omega arith) }

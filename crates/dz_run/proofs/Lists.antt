@@ -6,8 +6,7 @@ use Rattle.std.proofs.lemmas.List.Elements.{All-push}
 use Rattle.dz_algebra.specs.declared.Limit.{Limit}
 use Rattle.dz_algebra.specs.Polynomial.{Polynomial}
 use Rattle.dz_form.specs.Values.{◌>>=◌, item_answer}
-use Rattle.dz_form.proofs.Stacks.{means_polynomial}
-use Rattle.dz_form.proofs.Times.{means_lives}
+use Rattle.dz_poly.proofs.Books.{means_lives, means_polynomial}
 use Rattle.dz_poly.specs.Books.{BookValue, IsKept, Lives, Means, polynomial}
 use Rattle.dz_rank.specs.declared.symbols.Symbol.{Symbol}
 use Rattle.dz_syntax.specs.declared.expression.Op.{Op}

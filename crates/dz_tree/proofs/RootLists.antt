@@ -1,6 +1,5 @@
 -- The lists of a root, made one norm after the other.
 use Rattle.std.proofs.Common.{◌≡◌, ◌<◌, ◌≤◌, ◌+◌, ◌∙◌, sym, ap, ap₂, subst, refl, ℕ, zero, suc, Bool, true, false, ◌||◌, List, [], ◌∷◌, ◌++◌, length, if◌then◌else◌, arith}
-use Rattle.std.specs.Prelude.{Some, slice_get, slice_index_or}
 use Rattle.std.proofs.lemmas.List.{map-append}
 use Rattle.std.proofs.lemmas.List.Elements.{All-push}
 use Rattle.dz_algebra.specs.Norm.{norm}
@@ -8,6 +7,7 @@ use Rattle.dz_algebra.specs.Polynomial.{Polynomial}
 use Rattle.dz_algebra.specs.Symbols.{Symbols}
 use Rattle.dz_rank.specs.declared.symbols.Symbol.{Symbol}
 use Rattle.dz_poly.specs.Books.{BookValue, IsKept, Lives, Means, polynomial}
+use Rattle.dz_poly.proofs.Books.{means_lives, means_polynomial}
 use Rattle.dz_terms.specs.Ranked.{symbols_under}
 use Rattle.dz_diff.specs.Root.{kept_norms}
 use Rattle.dz_diff.specs.State.{without_place}
@@ -22,16 +22,6 @@ use Rattle.dz_tree.specs.Members.{is_left_out}
 norm_kept : (g : Symbols Symbol) (d : Polynomial Symbol → Bool) (kept : Polynomials) (p : Polynomial Symbol) → (d (norm p) || is_member g (norm p) kept) ≡ false → kept_norms g d kept (p ∷ []) ≡ kept ++ norm p ∷ []
 norm_kept g d kept p e = ap (λ b. if b then kept else kept ++ norm p ∷ []) e
 
-lives : (xs : Polynomials) (k : ℕ) (q : Polynomial Symbol) → slice_get xs k ≡ Some q → k < length xs
-lives [] k q e = absurd cc
-lives (x ∷ xs) zero q e = omega arith
-lives (x ∷ xs) (suc k) q e = let h = lives xs k q e in omega arith
-
-meant : (xs : Polynomials) (k : ℕ) (q : Polynomial Symbol) → slice_get xs k ≡ Some q → slice_index_or xs k [] ≡ q
-meant [] k q e = absurd cc
-meant (x ∷ xs) zero q e = cc
-meant (x ∷ xs) (suc k) q e = meant xs k q e
-
 module _ (old : BookValue) (members : Members) (p : ℕ) (kept : List ℕ) (live : LiveAll old kept) (n : Polynomial Symbol) (is : n ≡ norm (polynomial old p)) where
   abbrev g : Symbols Symbol
   g = symbols_under old.ranking
@@ -44,9 +34,9 @@ module _ (old : BookValue) (members : Members) (p : ℕ) (kept : List ℕ) (live
   pub norm_in : (new : BookValue) (q : ℕ) (all : List ℕ) → IsKept old new → Means new q n → false ≡ is_left_out g members n → false ≡ is_member g n (without_place 0 there) → all ≡ kept ++ q ∷ []
       → MeanAll new all (kept_norms g (is_left_out g members) there (polynomial old p ∷ []))
   norm_in new q all keeps means e f is_all = subst (λ xs. MeanAll new xs (kept_norms g (is_left_out g members) there (polynomial old p ∷ []))) (sym is_all) (record {
-    live = All-push (λ p. Lives new p) kept q (live_on old new keeps kept live) (lives new.polynomials q n means);
+    live = All-push (λ p. Lives new p) kept q (live_on old new keeps kept live) (means_lives new q n means);
     are = map-append (λ p. polynomial new p) kept (q ∷ []) ∙ ap (λ (qs : Polynomials). qs ++ polynomial new q ∷ []) (kept_polynomials old new keeps kept live)
-        ∙ ap (λ (x : Polynomial Symbol). there ++ x ∷ []) (meant new.polynomials q n means ∙ is) ∙ sym (norm_kept g (is_left_out g members) there (polynomial old p) other);
+        ∙ ap (λ (x : Polynomial Symbol). there ++ x ∷ []) (means_polynomial new q n means ∙ is) ∙ sym (norm_kept g (is_left_out g members) there (polynomial old p) other);
   })
     where
       other : (is_left_out g members (norm (polynomial old p)) || is_member g (norm (polynomial old p)) there) ≡ false

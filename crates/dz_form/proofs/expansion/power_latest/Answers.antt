@@ -4,7 +4,8 @@ use Rattle.dz_terms.specs.Ranked.{symbols_under}
 use Rattle.dz_syntax.specs.declared.expression.Op.TheVariants as ops
 use Rattle.dz_form.specs.Values.{power_answer, step_answer}
 use Rattle.dz_form.proofs.Stacks.{one_refused, one_replaced}
-use Rattle.dz_form.proofs.Times.{answered, means_lives}
+use Rattle.dz_poly.proofs.Books.{means_lives}
+use Rattle.dz_form.proofs.Times.{answered}
 use Rattle.dz_form.proofs.expansion.power_latest.Goals as goal
 
 pub returns-in_err-power-clause-made : goal.returns-in_err-power-clause-made

@@ -2,7 +2,8 @@ use Rattle.std.proofs.Common.{ap, ◌-◌, ◌≡◌, ◌≤◌, arith}
 use Rattle.dz_poly.specs.Books.{polynomial}
 use Rattle.dz_terms.specs.Ranked.{symbols_under}
 use Rattle.dz_form.specs.Values.{times}
-use Rattle.dz_form.proofs.Times.{kept_itself, means_itself, means_lives, times_turn, turn_refused, turns_done}
+use Rattle.dz_poly.proofs.Books.{kept_itself, means_lives}
+use Rattle.dz_form.proofs.Times.{means_itself, times_turn, turn_refused, turns_done}
 use Rattle.dz_form.proofs.expansion.times.Goals as goal
 
 pub factors-init : goal.factors-init
