@@ -1,10 +1,9 @@
 -- The root of a system has the facts of a state.
-use Rattle.std.proofs.Common.{◌≡◌, ◌≤◌, ◌+◌, ◌∙◌, sym, ap, ap₂, subst, refl, ℕ, suc, Bool, true, false, ◌||◌, cond, List, [], ◌∷◌, ◌++◌, length, if◌then◌else◌, arith, None, Some, Option, ℤ}
+use Rattle.std.proofs.Common.{◌≡◌, ◌≤◌, ◌+◌, ◌∙◌, sym, ap, ap₂, subst, refl, ℕ, suc, Bool, true, false, ◌||◌, cond, List, [], ◌∷◌, ◌++◌, length, if◌then◌else◌, arith, None, Some, ℤ}
 use Rattle.std.specs.Prelude.{nat_lt}
 use Rattle.std.proofs.lemmas.Bool.Decides.{nat_tests}
 use Rattle.std.proofs.lemmas.List.{length-append}
 use Rattle.std.proofs.lemmas.List.Elements.{All-head, All-tail}
-use Rattle.dz_algebra.specs.declared.Limit.{Limit}
 use Rattle.dz_algebra.specs.declared.Limit.TheVariants as limits
 use Rattle.dz_algebra.specs.Norm.{divided, norm, signed_content}
 use Rattle.dz_algebra.specs.Polynomial.{Polynomial}
@@ -18,7 +17,7 @@ use Rattle.dz_diff.specs.Root.{System, kept_norms, root_of}
 use Rattle.dz_diff.specs.State.{limit_passed, terms_of}
 use Rattle.dz_diff.specs.States.{IsStateOf, LiveAll, MeanAll, polynomials, state_in}
 use Rattle.dz_diff.specs.Tests.{Polynomials, is_member, is_unit, is_zero}
-use Rattle.dz_diff.proofs.KeptStates.{kept_polynomials, live_on}
+use Rattle.dz_diff.proofs.KeptStates.{kept_polynomials}
 use Rattle.dz_diff.proofs.RootStates.{root_is_state}
 use Rattle.dz_tree.specs.Systems.{IsSystemIn, system_in, system_limit}
 

@@ -44,11 +44,7 @@ impl System {
 
     /// The system with these lists, or the limit that it passes: it has at most 256 polynomials,
     /// and at most 65,536 terms in them together.
-    pub fn new(
-        book: &Book,
-        equations: Vec<Poly>,
-        inequations: Vec<Poly>,
-    ) -> Result<System, Limit>
+    pub fn new(book: &Book, equations: Vec<Poly>, inequations: Vec<Poly>) -> Result<System, Limit>
         requires equations { LiveAll book.now equations.items }
         requires inequations { LiveAll book.now inequations.items }
         ensures ok { IfOk result (λ s. s

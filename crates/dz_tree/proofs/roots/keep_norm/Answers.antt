@@ -1,4 +1,4 @@
-use Rattle.std.proofs.Common.{◌≡◌, ap, ap₂, ◌∙◌}
+use Rattle.std.proofs.Common.{ap₂, ◌∙◌}
 use Rattle.dz_terms.specs.Ranked.{symbols_under}
 use Rattle.dz_diff.specs.State.{without_place}
 use Rattle.dz_diff.specs.States.{polynomials}

@@ -1,4 +1,4 @@
-use Rattle.std.proofs.Common.{◌≡◌, ◌∙◌, [], ℕ, List, ap, subst, sym}
+use Rattle.std.proofs.Common.{◌∙◌, [], ℕ, List, ap, subst, sym}
 use Rattle.dz_terms.specs.Ranked.{symbols_under}
 use Rattle.dz_diff.specs.Root.{kept_norms}
 use Rattle.dz_diff.specs.States.{IsStateOf, MeanAll, polynomials, state_in}
