@@ -19,4 +19,5 @@ pub mod LeaderBounds
 pub mod Separants
 pub mod ProperDerivatives
 pub mod RootStates
+pub mod KeptNorms
 pub mod MemberTests

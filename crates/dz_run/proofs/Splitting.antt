@@ -1,5 +1,5 @@
 -- The tree of one line that is built for a system has the solutions of the system.
-use Rattle.std.proofs.Common.{◌≡◌, ◌≢◌, ◌↔◌, ◌≤◌, ◌||◌, not, ℕ, zero, suc, Bool, true, false, if◌then◌else◌, [], ◌∷◌, ◌++◌, All, ℤ, pos, negsuc, Some, None, refl, subst, arith, sym, ap, ◌∙◌, inl, inr, eqb-true}
+use Rattle.std.proofs.Common.{◌≡◌, ◌≢◌, ◌↔◌, ◌≤◌, not, ℕ, zero, suc, Bool, true, false, if◌then◌else◌, [], ◌∷◌, All, ℤ, pos, negsuc, Some, None, refl, subst, arith, sym, ap, ◌∙◌, inl, inr, eqb-true}
 use Rattle.std.proofs.lemmas.List.Elements.{All-cons, All-head, All-nil, All-tail}
 use Rattle.dz_algebra.specs.Domain.{Operations, DomainLaws, copies}
 use Rattle.dz_algebra.specs.Ring.{Ring, Value, same_value, values_arithmetic, ring_of_values, product_zero, negative_negative, negative_zero}
@@ -25,10 +25,9 @@ use Rattle.dz_diff.specs.Lists.{AllOf}
 use Rattle.dz_diff.specs.Over.{IsOver}
 use Rattle.dz_diff.specs.Root.{System, has_unit, has_zero, is_closed, kept_norms, root_of}
 use Rattle.dz_diff.specs.State.{State}
-use Rattle.dz_diff.specs.Tests.{Polynomials, is_member, is_unit, is_zero}
+use Rattle.dz_diff.specs.Tests.{Polynomials, is_unit, is_zero}
 use Rattle.dz_diff.proofs.Answers.{both, either}
-use Rattle.dz_diff.proofs.Places.{all-append, all_parts}
-use Rattle.dz_diff.proofs.SameTests.{member_is}
+use Rattle.dz_diff.proofs.KeptNorms.{kept_all, kept_back}
 use Rattle.dz_run.specs.Root.{IsNonsingular, Root, RootNonsingular, Solves, SolvesRoot, chain, closed, is_linear, is_linear_in, resting, tree_of_root}
 
 -- ---- tests
@@ -65,40 +64,9 @@ norm_over : (r : RankingValue) (p : Polynomial Symbol) → IsOver r p → IsOver
 norm_over r p h = record { canonical = norm_is (ranking_cmp r) p h.canonical; belongs = in_norm (ranking_cmp r) (BelongsTo r.signature) p h.belongs }
 
 -- ---- what is kept
-module _ (r : RankingValue) (drops : Polynomial Symbol → Bool) (P : Polynomial Symbol → Type 0) where
-  -- a property that passes to norms passes from what is kept and the further members to the result
-  kept_from : ((p : Polynomial Symbol) → IsOver r p → P p → P (norm p)) → (kept ps : Polynomials) → AllOf (IsOver r) ps → AllOf P kept → AllOf P ps → AllOf P (kept_norms (symbols_under r) drops kept ps)
-  kept_from on kept [] over h k = h
-  kept_from on kept (p ∷ ps) over h k =
-      elim (drops (norm p) || is_member (symbols_under r) (norm p) kept) as (λ b. AllOf P
-      (if b then kept_norms (symbols_under r) drops kept ps else kept_norms (symbols_under r) drops (kept ++ norm p ∷ []) ps)) [
-        | true ↦ kept_from on kept ps over.1 h k.1
-        | false ↦ kept_from on (kept ++ norm p ∷ []) ps over.1 (all-append P kept (norm p ∷ []) h (on p over.0 k.0, tt)) k.1
-      ]
-
-  -- one that passes from norms, and that each dropped polynomial has, passes from the result to what was kept and the further members
-  kept_back : ((p : Polynomial Symbol) → IsOver r p → P (norm p) → P p) → ((p : Polynomial Symbol) → IsOver r p → drops p ≡ true → P p) → (kept ps : Polynomials)
-      → AllOf (IsOver r) ps → AllOf P (kept_norms (symbols_under r) drops kept ps) → AllOf P kept × AllOf P ps
-  kept_back back dropped kept [] over h = (h, tt)
-  kept_back back dropped kept (p ∷ ps) over h =
-      elim (drops (norm p) || is_member (symbols_under r) (norm p) kept) as (λ b. (drops (norm p) || is_member (symbols_under r) (norm p) kept) ≡ b
-      → AllOf P (if b then kept_norms (symbols_under r) drops kept ps else kept_norms (symbols_under r) drops (kept ++ norm p ∷ []) ps) → AllOf P kept × AllOf P (p ∷ ps)) [
-        | true ↦ λ w all.
-            let rest = kept_back back dropped kept ps over.1 all in
-            let first : P (norm p) = elim (either (drops (norm p)) (is_member (symbols_under r) (norm p) kept) w) [
-              | inl drop ↦ dropped (norm p) (norm_over r p over.0) drop
-              | inr member ↦ member_is (symbols_under r) (ranking_order r) P (norm p) kept member rest.0
-            ] in
-            (rest.0, (back p over.0 first, rest.1))
-        | false ↦ λ w all.
-            let rest = kept_back back dropped (kept ++ norm p ∷ []) ps over.1 all in
-            let parts = all_parts P kept (norm p ∷ []) rest.0 in
-            (parts.0, (back p over.0 (parts.1).0, rest.1))
-      ] refl h
-
 -- what is kept of polynomials over a ranking is over it
 kept_over : (r : RankingValue) (drops : Polynomial Symbol → Bool) (ps : Polynomials) → AllOf (IsOver r) ps → AllOf (IsOver r) (kept_norms (symbols_under r) drops [] ps)
-kept_over r drops ps over = kept_from r drops (IsOver r) (λ p h k. norm_over r p h) [] ps over tt over
+kept_over r drops ps over = kept_all (symbols_under r) drops (IsOver r) (IsOver r) (λ p h k. norm_over r p h) [] ps over tt over
 
 -- a whole number that is not zero is not zero in a ring of characteristic zero
 whole_nonzero : {R : Type 0} (r : Ring R) → ((m : ℕ) → copies r.arithmetic (suc m) r.one ≢ r.zero) → (c : ℤ) → c ≢ pos 0 → whole_in r.arithmetic c ≢ r.zero
@@ -159,15 +127,15 @@ module _ (r : RankingValue) {E : Type 0} {o : Operations E} (laws : DomainLaws o
   -- the kept equations vanish exactly where all equations do
   equations_kept : (ps : Polynomials) → AllOf (IsOver r) ps → AllOf Vanishes ps ↔ AllOf Vanishes (kept_norms (symbols_under r) is_zero [] ps)
   equations_kept ps over = (
-    λ h. kept_from r is_zero Vanishes (λ p k v. (norm_vanishes p k.canonical).0 v) [] ps over tt h,
-    λ h. (kept_back r is_zero Vanishes (λ p k v. (norm_vanishes p k.canonical).1 v) (λ p k w. zero_vanishes p w) [] ps over h).1,
+    λ h. kept_all (symbols_under r) is_zero (IsOver r) Vanishes (λ p k v. (norm_vanishes p k.canonical).0 v) [] ps over tt h,
+    λ h. (kept_back (symbols_under r) is_zero (IsOver r) Vanishes (ranking_order r) (λ p k v. (norm_vanishes p k.canonical).1 v) (λ p k w. zero_vanishes (norm p) w) [] ps over h).1,
   )
 
   -- none of the kept inequations vanishes exactly where none of all does
   inequations_kept : (ps : Polynomials) → AllOf (IsOver r) ps → AllOf Differs ps ↔ AllOf Differs (kept_norms (symbols_under r) (is_unit (symbols_under r)) [] ps)
   inequations_kept ps over = (
-    λ h. kept_from r (is_unit (symbols_under r)) Differs (λ p k n v. n ((norm_vanishes p k.canonical).1 v)) [] ps over tt h,
-    λ h. (kept_back r (is_unit (symbols_under r)) Differs (λ p k n v. n ((norm_vanishes p k.canonical).0 v)) (λ p k w. unit_nonzero p k w) [] ps over h).1,
+    λ h. kept_all (symbols_under r) (is_unit (symbols_under r)) (IsOver r) Differs (λ p k n v. n ((norm_vanishes p k.canonical).1 v)) [] ps over tt h,
+    λ h. (kept_back (symbols_under r) (is_unit (symbols_under r)) (IsOver r) Differs (ranking_order r) (λ p k n v. n ((norm_vanishes p k.canonical).0 v)) (λ p k w. unit_nonzero (norm p) (norm_over r p k) w) [] ps over h).1,
   )
 
   -- the point solves the root of a system exactly where it solves the system

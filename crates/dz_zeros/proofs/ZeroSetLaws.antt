@@ -25,7 +25,7 @@ use Rattle.dz_diff.specs.Root.{System, is_closed}
 use Rattle.dz_diff.proofs.Answers.{both, is_false}
 use Rattle.dz_diff.specs.Over.{AreOver, IsOver}
 use Rattle.dz_diff.proofs.Overs.{all_good, good_over}
-use Rattle.dz_diff.proofs.Goodness.{Good, InRange}
+use Rattle.dz_diff.proofs.Goodness.{InRange}
 use Rattle.dz_step.specs.declared.Role.TheVariants.{Free}
 use Rattle.dz_step.specs.declared.Step.{Step}
 use Rattle.dz_step.specs.Run.{run}
