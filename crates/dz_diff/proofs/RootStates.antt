@@ -17,11 +17,13 @@ use Rattle.dz_diff.specs.States.{IsStateOf}
 use Rattle.dz_diff.specs.Tests.{Polynomials, is_member, is_unit, is_zero, same}
 use Rattle.dz_diff.proofs.SameTests.{same_is}
 
-or_none : (a b : Bool) → (a || b) ≡ false → (a ≡ false) × (b ≡ false)
+-- a disjunction that fails has both parts false
+pub or_none : (a b : Bool) → (a || b) ≡ false → (a ≡ false) × (b ≡ false)
 or_none true b e = absurd cc
 or_none false b e = (refl, e)
 
-all_push : (P : Polynomial Symbol → Type 0) (ps : Polynomials) (p : Polynomial Symbol) → AllOf P ps → P p → AllOf P (ps ++ p ∷ [])
+-- one member more
+pub all_push : (P : Polynomial Symbol → Type 0) (ps : Polynomials) (p : Polynomial Symbol) → AllOf P ps → P p → AllOf P (ps ++ p ∷ [])
 all_push P [] p h k = (k, tt)
 all_push P (q ∷ ps) p h k = (h.0, all_push P ps p h.1 k)
 
@@ -29,7 +31,8 @@ each_push : (P : Polynomial Symbol → Type 0) (ps : Polynomials) (p : Polynomia
 each_push P [] p h k = (k, tt)
 each_push P (q ∷ ps) p h k = (h.0, each_push P ps p h.1 k)
 
-no_zeros : (ps : Polynomials) → AllOf (λ p. is_zero p ≡ false) ps → has_zero ps ≡ false
+-- no member is zero
+pub no_zeros : (ps : Polynomials) → AllOf (λ p. is_zero p ≡ false) ps → has_zero ps ≡ false
 no_zeros [] h = refl
 no_zeros (p ∷ ps) h = ap₂ (λ a b. a || b) h.0 (no_zeros ps h.1)
 
@@ -37,11 +40,13 @@ module _ (r : RankingValue) where
   abbrev g : Symbols Symbol
   g = symbols_under r
 
-  no_units : (ps : Polynomials) → AllOf (λ p. is_unit g p ≡ false) ps → has_unit g ps ≡ false
+  -- no member is ground and not zero
+  pub no_units : (ps : Polynomials) → AllOf (λ p. is_unit g p ≡ false) ps → has_unit g ps ≡ false
   no_units [] h = refl
   no_units (p ∷ ps) h = ap₂ (λ a b. a || b) h.0 (no_units ps h.1)
 
-  same_back : (p q : Polynomial Symbol) → same g p q ≡ false → same g q p ≡ false
+  -- the test of two polynomials is the same from both sides
+  pub same_back : (p q : Polynomial Symbol) → same g p q ≡ false → same g q p ≡ false
   same_back p q e = by_test (same g q p) refl
     where
       by_test : (b : Bool) → same g q p ≡ b → b ≡ false
@@ -49,7 +54,7 @@ module _ (r : RankingValue) where
       by_test true k = let is : q ≡ p = same_is g (ranking_order r) q p k in let other : same g p q ≡ true = ap₂ (same g) (sym is) is ∙ k in absurd cc
 
   -- a polynomial that is no member, behind a list without repeats
-  distinct_push : (ps : Polynomials) (p : Polynomial Symbol) → IsDistinct (same g) ps → is_member g p ps ≡ false → IsDistinct (same g) (ps ++ p ∷ [])
+  pub distinct_push : (ps : Polynomials) (p : Polynomial Symbol) → IsDistinct (same g) ps → is_member g p ps ≡ false → IsDistinct (same g) (ps ++ p ∷ [])
   unfolding IsDistinct
   distinct_push [] p h e = (tt, tt)
   distinct_push (q ∷ ps) p h e =
@@ -58,10 +63,10 @@ module _ (r : RankingValue) where
 
   module _ (is_dropped : Polynomial Symbol → Bool) where
     -- what is true of the norms that are kept
-    record AreKept (ps : Polynomials) : Type 0 where
-      normalised : AllOf (λ p. norm p ≡ p) ps
-      distinct : IsDistinct (same g) ps
-      none_dropped : AllOf (λ p. is_dropped p ≡ false) ps
+    pub record AreKept (ps : Polynomials) : Type 0 where
+      pub normalised : AllOf (λ p. norm p ≡ p) ps
+      pub distinct : IsDistinct (same g) ps
+      pub none_dropped : AllOf (λ p. is_dropped p ≡ false) ps
 
     norms_kept : (kept ps : Polynomials) → AllOf (IsOver r) ps → AreKept kept → AreKept (kept_norms g is_dropped kept ps)
     norms_kept kept [] over h = h

@@ -1,10 +1,15 @@
 -- The laws of worked trees; the crate's law functions ask for their proofs.
-use Rattle.std.specs.Prelude.{◌≡◌, ◌≤◌, ◌+◌, ◌*◌, ℕ, List, IsOk}
+use Rattle.std.specs.Prelude.{◌≡◌, ◌≤◌, ◌+◌, ◌*◌, ℕ, List, IsOk, None, Ok}
 use Rattle.dz_rank.specs.Rankings.{RankingValue}
 use Rattle.dz_diff.specs.Operations.{Setting, setting_of}
+use Rattle.dz_terms.specs.Ranked.{symbols_under}
+use Rattle.dz_diff.specs.Lists.{AllOf}
 use Rattle.dz_diff.specs.Over.{AreOver}
-use Rattle.dz_diff.specs.Root.{System}
+use Rattle.dz_diff.specs.Root.{System, root_of}
 use Rattle.dz_diff.specs.State.{State}
+use Rattle.dz_diff.specs.States.{IsStateOf}
+use Rattle.dz_tree.specs.Moves.{Action, Done, perform}
+use Rattle.dz_tree.specs.Systems.{system_limit}
 use Rattle.dz_tree.specs.Lines.{Line, entries_of}
 use Rattle.dz_tree.specs.Walk.{Tree, ends_of}
 use Rattle.dz_engine.specs.Order.{next_entry}
@@ -17,10 +22,18 @@ pub record WorkedLaws (g : Setting) : Type 0 where
       → entries_of lines ≡ entries_of more
   pub certified : (system : System) (tree : Tree) → IsWorked g system tree → IsOk (ends_of g system tree)
 
+-- over a ranking, the states of a tree have the facts of a state
+pub record StateLaws (r : RankingValue) : Type 0 where
+  -- the root has them, where its system passes no limit
+  pub root : (system : System) → AreOver r system.equations system.inequations → system_limit system ≡ None → IsStateOf (symbols_under r) (root_of (symbols_under r) system)
+  -- and moves and forks keep them
+  pub kept : (s : State) (action : Action) (d : Done) → AreOver r s.equations s.inequations → IsStateOf (symbols_under r) s → perform (setting_of r) s action ≡ Ok d → AllOf (IsStateOf (symbols_under r)) d.after
+
 -- the order of work never stands without an answer, over a ranking and within a budget
 pub record OrderLaws (r : RankingValue) (budget : ℕ) : Type 0 where
-  -- at a state over the ranking that is ready, the line that is named holds, with its evidence
-  pub holds : (w : ℕ) (s : State) → w ≤ budget → AreOver r s.equations s.inequations → IsReady r budget w s → EntryHolds (setting_of r) budget w s (next_entry (setting_of r) budget w s)
-  -- for a system over the ranking, where every state that is reached is ready, there is a worked tree, found in so many rounds
-  pub is_there : (system : System) → AreOver r system.equations system.inequations → ((w : ℕ) (s : State) → w ≤ budget → IsReached (setting_of r) system s → IsReady r budget w s)
+  -- at a state over the ranking that has the facts of a state and is ready, the line that is named holds, with its evidence
+  pub holds : (w : ℕ) (s : State) → w ≤ budget → AreOver r s.equations s.inequations → IsStateOf (symbols_under r) s → IsReady r budget w s → EntryHolds (setting_of r) budget w s (next_entry (setting_of r) budget w s)
+  -- for a system over the ranking that passes no limit, where every state that is reached is ready, there is a worked tree,
+  -- found in so many rounds
+  pub is_there : (system : System) → AreOver r system.equations system.inequations → system_limit system ≡ None → ((w : ℕ) (s : State) → w ≤ budget → IsReached (setting_of r) system s → IsReady r budget w s)
       → IsWorked (setting_of r) system (record { budget = budget; lines = worked_lines (setting_of r) budget (2 * budget + 1) system })

@@ -6,7 +6,7 @@
 ghost use Rattle.std.specs.Prelude.{◌≤◌, ℕ};
 ghost use Rattle.dz_rank.specs.Rankings.{RankingValue};
 ghost use Rattle.dz_diff.specs.Operations.{Setting};
-ghost use Rattle.dz_engine.specs.Laws.{WorkedLaws, OrderLaws};
+ghost use Rattle.dz_engine.specs.Laws.{OrderLaws, StateLaws, WorkedLaws};
 ghost use Rattle.dz_engine.specs.Examples.{
   RunExamples,
   ConicExamples,
@@ -21,6 +21,12 @@ ghost use Rattle.dz_engine.specs.Examples.{
 #[tactic(auto, using(crate::proofs::WorkedTrees::worked_laws))]
 pub fn worked_trees_are_certified()
     ensures { (g : Setting) → WorkedLaws g }
+{}
+
+/// The root of a system within its limits has the facts of a state, and moves and forks keep them.
+#[tactic(auto, using(crate::proofs::StateFacts::state_laws))]
+pub fn states_keep_their_facts()
+    ensures { (r : RankingValue) → r.signature.independents ≤ 4 → StateLaws r }
 {}
 
 /// The order of work never stands without an answer: at a state over the ranking that is ready, the

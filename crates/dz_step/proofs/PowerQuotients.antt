@@ -232,7 +232,7 @@ module _ {S : Type 0} {cmp : S → S → Ordering} (order : IsOrder cmp) (v : S)
       All-cons {X = Monomial S × ℤ} IsInRange (lowered k t.0, t.1) (divided_by cmp v k p) first (divided_in_range k p (All-tail {X = Monomial S × ℤ} IsInRange t p h))
 
   -- the terms that are divided are the quotient
-  quotient_is : (k : ℕ) (p : Polynomial S) → IsPolynomial cmp p → k ≡ divisor_power cmp v p → quotient_by cmp v p ≡ divided_by cmp v k p
+  pub quotient_is : (k : ℕ) (p : Polynomial S) → IsPolynomial cmp p → k ≡ divisor_power cmp v p → quotient_by cmp v p ≡ divided_by cmp v k p
   quotient_is k p h e =
       collected order (divided_by cmp v (divisor_power cmp v p) p) (divided_is (divisor_power cmp v p) p h (power_low cmp v p))
       ∙ ap (λ k. divided_by cmp v k p) (sym e)

@@ -74,7 +74,7 @@ none_passed m n h k =
     ap₂ (λ a b. cond (a || false) (Some limits.Polynomials) (cond (b || false) (Some limits.Node) None)) a b
 
 -- a root passes no limit where its system passes none
-root_within : (g : Symbols Symbol) (s : System) → system_limit s ≡ None → limit_passed (root_of g s ∷ []) ≡ None
+pub root_within : (g : Symbols Symbol) (s : System) → system_limit s ≡ None → limit_passed (root_of g s ∷ []) ≡ None
 unfolding root_of
 root_within g s e =
     let both = within (length s.equations + length s.inequations) (terms_of s.equations + terms_of s.inequations) e in
