@@ -1,1 +1,3 @@
 pub mod DeltaParts
+pub mod LeaderOperators
+pub mod PairLists

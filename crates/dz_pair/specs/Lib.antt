@@ -1,1 +1,3 @@
 pub mod Pair
+pub mod Deltas
+pub mod Crossings
