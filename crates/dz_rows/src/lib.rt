@@ -10,6 +10,8 @@ mod laws;
 #[cfg(test)]
 mod outside;
 #[cfg(test)]
+mod pairs;
+#[cfg(test)]
 mod parts;
 #[cfg(test)]
 mod reductions;

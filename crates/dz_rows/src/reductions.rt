@@ -97,7 +97,12 @@ const NO_STEPS: [(&[u8], &[u8], [u8; 4], StepStop); 7] = [
 ];
 
 /// The polynomial that a text is read as.
-fn read(alloc: Global, book: &mut Book, names: &Names, text: &[u8]) -> Result<Poly, PolyStop>
+pub(crate) fn read(
+    alloc: Global,
+    book: &mut Book,
+    names: &Names,
+    text: &[u8],
+) -> Result<Poly, PolyStop>
     requires { signature_of names.now ≡ book.old.ranking.signature }
     ensures lives { IfOk result (λ p. Lives book.new p) }
     ensures kept { OnOk result (IsKept book.old book.new) }
@@ -109,7 +114,12 @@ fn read(alloc: Global, book: &mut Book, names: &Names, text: &[u8]) -> Result<Po
 }
 
 /// The text of a polynomial.
-fn written(alloc: Global, book: &Book, names: &Names, p: Poly) -> Result<Vec<u8>, PolyStop>
+pub(crate) fn written(
+    alloc: Global,
+    book: &Book,
+    names: &Names,
+    p: Poly,
+) -> Result<Vec<u8>, PolyStop>
     requires lives { Lives book.now p }
     requires signature { signature_of names.now ≡ book.now.ranking.signature }
 {
