@@ -40,11 +40,7 @@ use Rattle.dz_engine.proofs.WorkedTrees.{Goes, worked_is_there}
 use Rattle.dz_engine.proofs.EasyRules.{closed_goes, divide_goes, factor_goes, split_goes}
 use Rattle.dz_engine.proofs.OverOperations.{step_over, next_fits, norm_over, delta_over}
 use Rattle.dz_engine.proofs.OverStates.{StateOver, perform_over, root_over}
-use Rattle.dz_engine.proofs.StateFacts.{perform_facts}
-use Rattle.dz_diff.specs.States.{IsStateOf}
-use Rattle.dz_diff.proofs.RootStates.{root_is_state}
-use Rattle.dz_tree.specs.Systems.{system_limit}
-use Rattle.dz_tree.proofs.RootFacts.{root_within}
+use Rattle.dz_engine.proofs.StateFacts.{AreNormal, all_give, all_two, perform_normal, root_is_normal}
 use Rattle.dz_engine.proofs.RestingPlaces.{chain_admits}
 use Rattle.dz_engine.proofs.RunRules.{StepsGo, NeverReturns, reduce_goes, weed_goes}
 use Rattle.dz_engine.proofs.PairRules.{pairs_goes}
@@ -63,7 +59,7 @@ not_closed g s e = by_test (is_closed g.symbols s) e
     by_test true e = cc
     by_test false e = refl
 
-module _ (r : RankingValue) (few : r.signature.independents ≤ 4) (budget w : ℕ) (s : State) (states : AreOver r s.equations s.inequations) (facts : IsStateOf (symbols_under r) s) (ready : IsReady r budget w s) (low : w ≤ budget) where
+module _ (r : RankingValue) (few : r.signature.independents ≤ 4) (budget w : ℕ) (s : State) (states : AreOver r s.equations s.inequations) (normal : AreNormal r few s) (ready : IsReady r budget w s) (low : w ≤ budget) where
   abbrev g : Setting
   g = setting_of r
 
@@ -106,10 +102,10 @@ module _ (r : RankingValue) (few : r.signature.independents ≤ 4) (budget w : �
   next_holds =
       first_is (EntryHolds g budget w s) (closed_next g s) _ _ (closed_goes g budget w s) (λ c.
       first_is (EntryHolds g budget w s) (divide_next g budget w s) _ _ (divide_goes g budget w s) (λ d.
-      first_is (EntryHolds g budget w s) (reduce_next g budget w s) _ _ (reduce_goes g (ranking_order r) budget w s (IsOver r) Fits (λ i. (steps_go (Equation i), never_returns (Equation i))) (all_fine s.equations over facts.equations_normalised)) (λ q.
+      first_is (EntryHolds g budget w s) (reduce_next g budget w s) _ _ (reduce_goes g (ranking_order r) budget w s (IsOver r) Fits (λ i. (steps_go (Equation i), never_returns (Equation i))) (all_fine s.equations over normal.0)) (λ q.
       first_is (EntryHolds g budget w s) (factor_next g budget w s) _ _ (factor_goes g budget w s) (λ f.
       first_is (EntryHolds g budget w s) (split_next g budget w s) _ _ (split_goes g budget w s ready.separants) (λ p.
-      first_is (EntryHolds g budget w s) (weed_next g budget w s) [] (pairs_next g budget s w [] (critical_pairs g.symbols s)) (weed_goes g (ranking_order r) budget w s (IsOver r) Fits (λ i. (steps_go (Inequation i), never_returns (Inequation i))) (all_fine s.inequations states.inequations_over facts.inequations_normalised)) (λ v.
+      first_is (EntryHolds g budget w s) (weed_next g budget w s) [] (pairs_next g budget s w [] (critical_pairs g.symbols s)) (weed_goes g (ranking_order r) budget w s (IsOver r) Fits (λ i. (steps_go (Inequation i), never_returns (Inequation i))) (all_fine s.inequations states.inequations_over normal.1)) (λ v.
       let rest = ready.at_rest (not_closed g s c) d q f p v in
       pairs_goes g budget w s (IsOver r) Fits (steps_go Free) rest delta_fine (chain_admits r few s over rest.is_chain) low))))))
 
@@ -174,8 +170,8 @@ module _ (g : Setting) (budget w : ℕ) (s : State) (FineState : State → Type 
 
 -- ---- the worked tree
 -- the worked entries are there, where each state is ready and stays so
-pub entries_there : (r : RankingValue) → r.signature.independents ≤ 4 → (budget : ℕ) (FineState : State → Type 0)
-    → ((w : ℕ) (s : State) → w ≤ budget → FineState s → AreOver r s.equations s.inequations × (IsStateOf (symbols_under r) s × IsReady r budget w s))
+pub entries_there : (r : RankingValue) → (few : r.signature.independents ≤ 4) → (budget : ℕ) (FineState : State → Type 0)
+    → ((w : ℕ) (s : State) → w ≤ budget → FineState s → AreOver r s.equations s.inequations × (AreNormal r few s × IsReady r budget w s))
     → ((s : State) (action : Action) (d : Done) → FineState s → perform (setting_of r) s action ≡ Ok d → AllOf FineState d.after)
     → (s : State) → FineState s → IsWorkedFrom (setting_of r) budget 0 (s ∷ []) (worked_from (setting_of r) budget (2 * budget + 1) 0 (s ∷ []))
 entries_there r few budget FineState ready kept s h =
@@ -223,16 +219,6 @@ all_of_themselves xs = from_inside xs (λ x h. h)
     from_inside [] inside = tt
     from_inside (y ∷ ys) inside = (inside y (inl refl), from_inside ys (λ x h. inside x (inr h)))
 
--- what follows for each member
-all_give : {A : Type 0} (P Q : A → Type 0) → ((x : A) → P x → Q x) → (xs : List A) → AllOf P xs → AllOf Q xs
-all_give P Q give [] h = tt
-all_give P Q give (x ∷ xs) h = (give x h.0, all_give P Q give xs h.1)
-
--- two things of each member
-all_two : {A : Type 0} (P Q : A → Type 0) (xs : List A) → AllOf P xs → AllOf Q xs → AllOf (λ x. P x × Q x) xs
-all_two P Q [] h k = tt
-all_two P Q (x ∷ xs) h k = ((h.0, k.0), all_two P Q xs h.1 k.1)
-
 -- what an action leads to is reached
 reached_after : (g : Setting) (system : System) (s : State) (action : Action) (d : Done) → IsReached g system s → perform g s action ≡ Ok d → AllOf (IsReached g system) d.after
 reached_after g system s action d h e =
@@ -240,17 +226,17 @@ reached_after g system s action d h e =
 
 -- ---- the laws
 -- a worked tree is there, where every state that is reached is ready
-tree_there : (r : RankingValue) → r.signature.independents ≤ 4 → (budget : ℕ) (system : System) → AreOver r system.equations system.inequations → system_limit system ≡ None → ((w : ℕ) (s : State) → w ≤ budget → IsReached (setting_of r) system s → IsReady r budget w s)
+tree_there : (r : RankingValue) → r.signature.independents ≤ 4 → (budget : ℕ) (system : System) → AreOver r system.equations system.inequations → ((w : ℕ) (s : State) → w ≤ budget → IsReached (setting_of r) system s → IsReady r budget w s)
     → IsWorked (setting_of r) system (record { budget = budget; lines = worked_lines (setting_of r) budget (2 * budget + 1) system })
-tree_there r few budget system of_system within ready =
+tree_there r few budget system of_system ready =
     let root = root_of (symbols_under r) system in
-    let IsFine : State → Type 0 = λ s. StateOver r few s × IsStateOf (symbols_under r) s in
+    let IsFine : State → Type 0 = λ s. StateOver r few s × AreNormal r few s in
     let h = entries_there r few budget (λ s. IsReached (setting_of r) system s × IsFine s) (λ w s low k. ((k.1).0, ((k.1).1, ready w s low k.0)))
     (λ s action d k e. all_two (IsReached (setting_of r) system) IsFine d.after (reached_after (setting_of r) system s action d k.0 e)
-    (all_two (StateOver r few) (IsStateOf (symbols_under r)) d.after (perform_over r few s action d (k.1).0 e) (perform_facts r few s action d (k.1).0 (k.1).1 e))) root
-    (([], refl), (root_over r few system of_system, root_is_state r system of_system (root_within (symbols_under r) system within))) in
+    (all_two (StateOver r few) (AreNormal r few) d.after (perform_over r few s action d (k.1).0 e) (perform_normal r few s action d (k.1).0 (k.1).1 e))) root
+    (([], refl), (root_over r few system of_system, root_is_normal r few system of_system)) in
     subst (λ (es : List Entry). IsWorkedFrom (setting_of r) budget 0 (root ∷ []) es) (sym (ap (λ (q : List Evidence × List Entry). q.1) (worked_grouped (setting_of r) budget 0 (root ∷ []) _ h))) h
 
 -- the laws of the order of work
 pub order_laws : (r : RankingValue) → r.signature.independents ≤ 4 → (budget : ℕ) → OrderLaws r budget
-order_laws r few budget = record { holds = λ w s low states facts ready. next_holds r few budget w s states facts ready low; is_there = tree_there r few budget }
+order_laws r few budget = record { holds = λ w s low states es hs ready. next_holds r few budget w s states (es, hs) ready low; is_there = tree_there r few budget }

@@ -1,6 +1,6 @@
 -- Moves and forks keep the facts of a state.
 use Rattle.std.proofs.Common.{◌≡◌, ◌≤◌, ℕ, zero, suc, ◌+◌, ◌-◌, Bool, true, false, not, ◌&&◌, ◌||◌, nat_lt, cond, List, [], ◌∷◌, ◌++◌, length, refl, sym, ap, ap₂, ◌∙◌, subst, Ok, Option, Some, None, ℤ, pos}
-use Rattle.std.specs.Prelude.{int_div, int_lt, neg_ℤ, unsigned_abs}
+use Rattle.std.specs.Prelude.{if◌then◌else◌, int_div, int_lt, neg_ℤ, unsigned_abs}
 use Rattle.std.specs.List.{IsDistinct, AllByRecursion}
 use Rattle.dz_algebra.specs.declared.Limit.{Limit}
 use Rattle.dz_algebra.specs.declared.Limit.TheVariants as limits
@@ -18,8 +18,8 @@ use Rattle.dz_terms.proofs.SymbolLaws.{ranking_order}
 use Rattle.dz_diff.specs.Lists.{AllOf}
 use Rattle.dz_diff.specs.Operations.{setting_of}
 use Rattle.dz_diff.specs.Outcome.{numbered, told_as}
-use Rattle.dz_diff.specs.Over.{IsOver}
-use Rattle.dz_diff.specs.Root.{has_unit, has_zero}
+use Rattle.dz_diff.specs.Over.{AreOver, IsOver}
+use Rattle.dz_diff.specs.Root.{System, has_unit, has_zero, kept_norms, root_of}
 use Rattle.dz_diff.specs.State.{State, at_place, limit_passed, member_count, put_equation, put_inequation, replaced, same_state, some_passes, term_count, without_place}
 use Rattle.dz_diff.specs.States.{IsStateOf}
 use Rattle.dz_diff.specs.Tests.{Polynomials, is_member, is_unit, is_zero, same}
@@ -100,9 +100,15 @@ settled_is k ss w d e =
     let a = bind_ok (numbered k (within (limit_passed ss))) _ d e in
     (within_none (limit_passed ss) (told_ok _ (within (limit_passed ss)) tt a.1), ap (λ (x : Done). x.after) (sym (ok_same (record { after = ss; weight = w }) d a.2)))
 
-all_apply : {A : Type 0} (P Q : A → Type 0) (xs : List A) → AllOf (λ x. P x → Q x) xs → AllOf P xs → AllOf Q xs
-all_apply P Q [] h k = tt
-all_apply P Q (x ∷ xs) h k = (h.0 k.0, all_apply P Q xs h.1 k.1)
+-- what follows for each member
+pub all_give : {A : Type 0} (P Q : A → Type 0) → ((x : A) → P x → Q x) → (xs : List A) → AllOf P xs → AllOf Q xs
+all_give P Q give [] h = tt
+all_give P Q give (x ∷ xs) h = (give x h.0, all_give P Q give xs h.1)
+
+-- two things of each member
+pub all_two : {A : Type 0} (P Q : A → Type 0) (xs : List A) → AllOf P xs → AllOf Q xs → AllOf (λ x. P x × Q x) xs
+all_two P Q [] h k = tt
+all_two P Q (x ∷ xs) h k = ((h.0, k.0), all_two P Q xs h.1 k.1)
 
 module _ (r : RankingValue) (few : r.signature.independents ≤ 4) where
   abbrev g : Symbols Symbol
@@ -186,12 +192,6 @@ module _ (r : RankingValue) (few : r.signature.independents ≤ 4) where
     within_limits = e;
   }
 
-  -- states that are settled have the facts where their lists do
-  settled_facts : (k : ℕ) (ss : List State) (w : ℕ) (d : Done) → AllOf (λ s. limit_passed (s ∷ []) ≡ None → IsStateOf g s) ss → settled k ss w ≡ Ok d → AllOf (IsStateOf g) d.after
-  settled_facts k ss w d h e =
-      let a = settled_is k ss w d e in
-      subst (AllOf (IsStateOf g)) (sym a.1) (all_apply (λ s. limit_passed (s ∷ []) ≡ None) (IsStateOf g) ss h (each_within ss a.0))
-
   -- ---- norms
   -- the result of a step is a norm
   step_normal : (s : State) (role : Role) (f x : Polynomial Symbol) (st : Step) → AllOf (IsOver r) s.equations → IsOver r f → step_in (setting_of r) s role f st ≡ Ok x → norm x ≡ x
@@ -258,77 +258,139 @@ module _ (r : RankingValue) (few : r.signature.independents ≤ 4) where
   norm_no_zero (t ∷ p) e = refl
 
   -- ---- moves and forks
-  pub perform_facts : (s : State) (action : Action) (d : Done) → StateOver r few s → IsStateOf g s → perform (setting_of r) s action ≡ Ok d → AllOf (IsStateOf g) d.after
-  unfolding reduced weeded grown divided_at split_at factored
-  perform_facts s (reduce i steps) d h k e =
-      let a = given_then (at_place i s.equations) _ _ d e in
-      let b = bind_ok (told_as run_fault (run (setting_of r) s (Equation i) a.0 steps)) _ d a.2 in
-      let p = taken (IsOver r) i a.0 s.equations a.1 h.equations_over in
-      let normal = run_normal s (Equation i) a.0 steps b.0 h.equations_over p.0 b.1 in
-      let after = with_equations s (put_equation g i (b.0).end s.equations) in
-      settled_facts (length steps) (after ∷ []) (1 + (b.0).count) d (facts_of after (kept_put is_zero i (b.0).end s.equations normal (equations_kept s k)) (inequations_kept s k), tt) (then_ok (not (same_state g s after)) _ _ d b.2).1
-  perform_facts s (weed j steps) d h k e =
-      let a = given_then (at_place j s.inequations) _ _ d e in
-      let b = bind_ok (told_as run_fault (run (setting_of r) s (Inequation j) a.0 steps)) _ d a.2 in
-      let p = taken (IsOver r) j a.0 s.inequations a.1 h.inequations_over in
-      let normal = run_normal s (Inequation j) a.0 steps b.0 h.equations_over p.0 b.1 in
-      let after = with_inequations s (put_inequation g j (b.0).end s.inequations) in
-      settled_facts (length steps) (after ∷ []) (1 + (b.0).count) d (facts_of after (equations_kept s k) (kept_put (is_unit g) j (b.0).end s.inequations normal (inequations_kept s k)), tt) (then_ok (not (same_state g s after)) _ _ d b.2).1
-  perform_facts s (add i j steps) d h k e =
-      let a0 = then_ok (nat_lt i j) _ _ d e in
-      let a1 = given_then (at_place i s.equations) _ _ d a0.1 in
-      let a2 = given_then (at_place j s.equations) _ _ d a1.2 in
-      let a3 = then_ok (is_pair g a1.0 a2.0) _ _ d a2.2 in
-      let a4 = bind_ok (numbered 0 (told_as refusal (delta_answer (setting_of r) a1.0 a2.0))) _ d a3.1 in
-      let a5 = bind_ok (told_as run_fault (run (setting_of r) s Free a4.0 steps)) _ d a4.2 in
-      let x = (a5.0).end in
-      let a6 = then_ok (not (is_zero x) && not (is_member g x s.equations) && not (admits (setting_of r) s Free x)) _ _ d a5.2 in
-      let b1 = both (not (is_zero x) && not (is_member g x s.equations)) (not (admits (setting_of r) s Free x)) a6.0 in
-      let b2 = both (not (is_zero x)) (not (is_member g x s.equations)) b1.0 in
-      let p = (taken (IsOver r) i a1.0 s.equations a1.1 h.equations_over).0 in
-      let q = (taken (IsOver r) j a2.0 s.equations a2.1 h.equations_over).0 in
-      let delta = delta_over r few a1.0 a2.0 a4.0 (told_ok refusal (delta_answer (setting_of r) a1.0 a2.0) a4.0 (told_ok _ (told_as refusal (delta_answer (setting_of r) a1.0 a2.0)) a4.0 a4.1)) p q in
-      let normal = run_normal s Free a4.0 steps a5.0 h.equations_over delta a5.1 in
-      let after = with_equations s (s.equations ++ x ∷ []) in
-      settled_facts (length steps) (after ∷ []) (1 + length a4.0 + (a5.0).count) d (facts_of after (kept_push is_zero x s.equations normal (is_false (is_zero x) b2.0) (is_false (is_member g x s.equations) b2.1) (equations_kept s k)) (inequations_kept s k), tt) a6.1
-  perform_facts s (divide i v) d h k e =
-      let a1 = given_then (at_place i s.equations) _ _ d e in
-      let a2 = then_ok (is_divided (ranking_cmp r) v a1.0 && is_member g (symbol_polynomial v) s.inequations) _ _ d a1.2 in
-      let p = (taken (IsOver r) i a1.0 s.equations a1.1 h.equations_over).0 in
-      let n = (taken (λ p. norm p ≡ p) i a1.0 s.equations a1.1 k.equations_normalised).0 in
-      let q = quotient_by (ranking_cmp r) v a1.0 in
-      let after = with_equations s (put_equation g i q s.equations) in
-      settled_facts 0 (after ∷ []) (1 + length q) d (facts_of after (kept_put is_zero i q s.equations (quotient_normal v a1.0 p n) (equations_kept s k)) (inequations_kept s k), tt) a2.1
-  perform_facts s (split i which) d h k e =
-      let a1 = given_then (at_place i s.equations) _ _ d e in
-      let a2 = given_then (leader g a1.0) _ _ d a1.2 in
-      let a3 = bind_ok (numbered 0 (told_as refusal (multiplier_answer g which a2.0 a1.0))) _ d a2.2 in
-      let m = a3.0 in
-      let a4 = then_ok (not (is_ground g m) && not (is_member g (norm m) s.equations) && not (is_member g (norm m) s.inequations)) _ _ d a3.2 in
-      let b1 = both (not (is_ground g m) && not (is_member g (norm m) s.equations)) (not (is_member g (norm m) s.inequations)) a4.0 in
-      let b2 = both (not (is_ground g m)) (not (is_member g (norm m) s.equations)) b1.0 in
-      let p = (taken (IsOver r) i a1.0 s.equations a1.1 h.equations_over).0 in
-      let canonical = (good_multiplier r which a2.0 a1.0 m (told_ok refusal (multiplier_answer g which a2.0 a1.0) m (told_ok _ (told_as refusal (multiplier_answer g which a2.0 a1.0)) m a3.1)) (good_over r a1.0 p)).0 in
-      let normal = norm_idempotent (ranking_cmp r) m canonical in
-      let led = is_false (is_ground g m) b2.0 in
-      let first = forked s s.equations (s.inequations ++ norm m ∷ []) in
-      let second = forked s (s.equations ++ norm m ∷ []) s.inequations in
-      settled_facts 0 (first ∷ second ∷ []) (1 + length (norm m)) d
-      (facts_of first (equations_kept s k) (kept_push (is_unit g) (norm m) s.inequations normal (norm_no_unit m led) (is_false (is_member g (norm m) s.inequations) b1.1) (inequations_kept s k)), (facts_of second (kept_push is_zero (norm m) s.equations normal (norm_no_zero m led) (is_false (is_member g (norm m) s.equations) b2.1) (equations_kept s k)) (inequations_kept s k), tt)) a4.1
-  perform_facts s (factor i v) d h k e =
-      let a1 = given_then (at_place i s.equations) _ _ d e in
-      let w = symbol_polynomial v in
-      let a2 = then_ok (is_derivative v && is_divided (ranking_cmp r) v a1.0 && not (same g a1.0 w) && not (is_member g w s.inequations)) _ _ d a1.2 in
-      let b1 = both (is_derivative v && is_divided (ranking_cmp r) v a1.0 && not (same g a1.0 w)) (not (is_member g w s.inequations)) a2.0 in
-      let b2 = both (is_derivative v && is_divided (ranking_cmp r) v a1.0) (not (same g a1.0 w)) b1.0 in
-      let b3 = both (is_derivative v) (is_divided (ranking_cmp r) v a1.0) b2.0 in
-      let p = (taken (IsOver r) i a1.0 s.equations a1.1 h.equations_over).0 in
-      let n = (taken (λ p. norm p ≡ p) i a1.0 s.equations a1.1 k.equations_normalised).0 in
-      let q = quotient_by (ranking_cmp r) v a1.0 in
-      let first = forked s (put_equation g i q s.equations) (s.inequations ++ w ∷ []) in
-      let second = forked s (put_equation g i w s.equations) s.inequations in
-      settled_facts 0 (first ∷ second ∷ []) (1 + length q) d
-      (facts_of first (kept_put is_zero i q s.equations (quotient_normal v a1.0 p n) (equations_kept s k)) (kept_push (is_unit g) w s.inequations (symbol_normal v) (symbol_no_unit v b3.0) (is_false (is_member g w s.inequations) b1.1) (inequations_kept s k)), (facts_of second (kept_put is_zero i w s.equations (symbol_normal v) (equations_kept s k)) (inequations_kept s k), tt)) a2.1
+  -- What may be kept of a list from which a test drops members: it says that they are norms, and stays when a norm is put at
+  -- a place, or pushed that is not dropped and no member.
+  record IsListFact (L : (Polynomial Symbol → Bool) → Polynomials → Type 0) : Type 0 where
+    normal : (d : Polynomial Symbol → Bool) (ps : Polynomials) → L d ps → AllOf (λ p. norm p ≡ p) ps
+    put : (d : Polynomial Symbol → Bool) (i : ℕ) (p : Polynomial Symbol) (ps : Polynomials) → norm p ≡ p → L d ps → L d (cond (d p || is_member g p (without_place i ps)) (without_place i ps) (replaced i p ps))
+    push : (d : Polynomial Symbol → Bool) (p : Polynomial Symbol) (ps : Polynomials) → norm p ≡ p → d p ≡ false → is_member g p ps ≡ false → L d ps → L d (ps ++ p ∷ [])
+
+  module _ (L : (Polynomial Symbol → Bool) → Polynomials → Type 0) (fact : IsListFact L) where
+    -- both lists of a state have it
+    abbrev HasLists : State → Type 0
+    HasLists s = L is_zero s.equations × L (is_unit g) s.inequations
+
+    -- and the state passes no limit
+    abbrev IsSettled : State → Type 0
+    IsSettled s = HasLists s × (limit_passed (s ∷ []) ≡ None)
+
+    settled_lists : (k : ℕ) (ss : List State) (w : ℕ) (d : Done) → AllOf HasLists ss → settled k ss w ≡ Ok d → AllOf IsSettled d.after
+    settled_lists k ss w d h e =
+        let a = settled_is k ss w d e in
+        subst (AllOf IsSettled) (sym a.1) (all_two HasLists (λ s. limit_passed (s ∷ []) ≡ None) ss h (each_within ss a.0))
+
+    -- moves and forks keep it
+    perform_lists : (s : State) (action : Action) (d : Done) → StateOver r few s → HasLists s → perform (setting_of r) s action ≡ Ok d → AllOf IsSettled d.after
+    unfolding reduced weeded grown divided_at split_at factored
+    perform_lists s (reduce i steps) d h k e =
+        let a = given_then (at_place i s.equations) _ _ d e in
+        let b = bind_ok (told_as run_fault (run (setting_of r) s (Equation i) a.0 steps)) _ d a.2 in
+        let p = taken (IsOver r) i a.0 s.equations a.1 h.equations_over in
+        let normal = run_normal s (Equation i) a.0 steps b.0 h.equations_over p.0 b.1 in
+        let after = with_equations s (put_equation g i (b.0).end s.equations) in
+        settled_lists (length steps) (after ∷ []) (1 + (b.0).count) d ((fact.put is_zero i (b.0).end s.equations normal k.0, k.1), tt) (then_ok (not (same_state g s after)) _ _ d b.2).1
+    perform_lists s (weed j steps) d h k e =
+        let a = given_then (at_place j s.inequations) _ _ d e in
+        let b = bind_ok (told_as run_fault (run (setting_of r) s (Inequation j) a.0 steps)) _ d a.2 in
+        let p = taken (IsOver r) j a.0 s.inequations a.1 h.inequations_over in
+        let normal = run_normal s (Inequation j) a.0 steps b.0 h.equations_over p.0 b.1 in
+        let after = with_inequations s (put_inequation g j (b.0).end s.inequations) in
+        settled_lists (length steps) (after ∷ []) (1 + (b.0).count) d ((k.0, fact.put (is_unit g) j (b.0).end s.inequations normal k.1), tt) (then_ok (not (same_state g s after)) _ _ d b.2).1
+    perform_lists s (add i j steps) d h k e =
+        let a0 = then_ok (nat_lt i j) _ _ d e in
+        let a1 = given_then (at_place i s.equations) _ _ d a0.1 in
+        let a2 = given_then (at_place j s.equations) _ _ d a1.2 in
+        let a3 = then_ok (is_pair g a1.0 a2.0) _ _ d a2.2 in
+        let a4 = bind_ok (numbered 0 (told_as refusal (delta_answer (setting_of r) a1.0 a2.0))) _ d a3.1 in
+        let a5 = bind_ok (told_as run_fault (run (setting_of r) s Free a4.0 steps)) _ d a4.2 in
+        let x = (a5.0).end in
+        let a6 = then_ok (not (is_zero x) && not (is_member g x s.equations) && not (admits (setting_of r) s Free x)) _ _ d a5.2 in
+        let b1 = both (not (is_zero x) && not (is_member g x s.equations)) (not (admits (setting_of r) s Free x)) a6.0 in
+        let b2 = both (not (is_zero x)) (not (is_member g x s.equations)) b1.0 in
+        let p = (taken (IsOver r) i a1.0 s.equations a1.1 h.equations_over).0 in
+        let q = (taken (IsOver r) j a2.0 s.equations a2.1 h.equations_over).0 in
+        let delta = delta_over r few a1.0 a2.0 a4.0 (told_ok refusal (delta_answer (setting_of r) a1.0 a2.0) a4.0 (told_ok _ (told_as refusal (delta_answer (setting_of r) a1.0 a2.0)) a4.0 a4.1)) p q in
+        let normal = run_normal s Free a4.0 steps a5.0 h.equations_over delta a5.1 in
+        let after = with_equations s (s.equations ++ x ∷ []) in
+        settled_lists (length steps) (after ∷ []) (1 + length a4.0 + (a5.0).count) d ((fact.push is_zero x s.equations normal (is_false (is_zero x) b2.0) (is_false (is_member g x s.equations) b2.1) k.0, k.1), tt) a6.1
+    perform_lists s (divide i v) d h k e =
+        let a1 = given_then (at_place i s.equations) _ _ d e in
+        let a2 = then_ok (is_divided (ranking_cmp r) v a1.0 && is_member g (symbol_polynomial v) s.inequations) _ _ d a1.2 in
+        let p = (taken (IsOver r) i a1.0 s.equations a1.1 h.equations_over).0 in
+        let n = (taken (λ p. norm p ≡ p) i a1.0 s.equations a1.1 (fact.normal is_zero s.equations k.0)).0 in
+        let q = quotient_by (ranking_cmp r) v a1.0 in
+        let after = with_equations s (put_equation g i q s.equations) in
+        settled_lists 0 (after ∷ []) (1 + length q) d ((fact.put is_zero i q s.equations (quotient_normal v a1.0 p n) k.0, k.1), tt) a2.1
+    perform_lists s (split i which) d h k e =
+        let a1 = given_then (at_place i s.equations) _ _ d e in
+        let a2 = given_then (leader g a1.0) _ _ d a1.2 in
+        let a3 = bind_ok (numbered 0 (told_as refusal (multiplier_answer g which a2.0 a1.0))) _ d a2.2 in
+        let m = a3.0 in
+        let a4 = then_ok (not (is_ground g m) && not (is_member g (norm m) s.equations) && not (is_member g (norm m) s.inequations)) _ _ d a3.2 in
+        let b1 = both (not (is_ground g m) && not (is_member g (norm m) s.equations)) (not (is_member g (norm m) s.inequations)) a4.0 in
+        let b2 = both (not (is_ground g m)) (not (is_member g (norm m) s.equations)) b1.0 in
+        let p = (taken (IsOver r) i a1.0 s.equations a1.1 h.equations_over).0 in
+        let canonical = (good_multiplier r which a2.0 a1.0 m (told_ok refusal (multiplier_answer g which a2.0 a1.0) m (told_ok _ (told_as refusal (multiplier_answer g which a2.0 a1.0)) m a3.1)) (good_over r a1.0 p)).0 in
+        let normal = norm_idempotent (ranking_cmp r) m canonical in
+        let led = is_false (is_ground g m) b2.0 in
+        let first = forked s s.equations (s.inequations ++ norm m ∷ []) in
+        let second = forked s (s.equations ++ norm m ∷ []) s.inequations in
+        settled_lists 0 (first ∷ second ∷ []) (1 + length (norm m)) d
+        ((k.0, fact.push (is_unit g) (norm m) s.inequations normal (norm_no_unit m led) (is_false (is_member g (norm m) s.inequations) b1.1) k.1), ((fact.push is_zero (norm m) s.equations normal (norm_no_zero m led) (is_false (is_member g (norm m) s.equations) b2.1) k.0, k.1), tt)) a4.1
+    perform_lists s (factor i v) d h k e =
+        let a1 = given_then (at_place i s.equations) _ _ d e in
+        let w = symbol_polynomial v in
+        let a2 = then_ok (is_derivative v && is_divided (ranking_cmp r) v a1.0 && not (same g a1.0 w) && not (is_member g w s.inequations)) _ _ d a1.2 in
+        let b1 = both (is_derivative v && is_divided (ranking_cmp r) v a1.0 && not (same g a1.0 w)) (not (is_member g w s.inequations)) a2.0 in
+        let b2 = both (is_derivative v && is_divided (ranking_cmp r) v a1.0) (not (same g a1.0 w)) b1.0 in
+        let b3 = both (is_derivative v) (is_divided (ranking_cmp r) v a1.0) b2.0 in
+        let p = (taken (IsOver r) i a1.0 s.equations a1.1 h.equations_over).0 in
+        let n = (taken (λ p. norm p ≡ p) i a1.0 s.equations a1.1 (fact.normal is_zero s.equations k.0)).0 in
+        let q = quotient_by (ranking_cmp r) v a1.0 in
+        let first = forked s (put_equation g i q s.equations) (s.inequations ++ w ∷ []) in
+        let second = forked s (put_equation g i w s.equations) s.inequations in
+        settled_lists 0 (first ∷ second ∷ []) (1 + length q) d
+        ((fact.put is_zero i q s.equations (quotient_normal v a1.0 p n) k.0, fact.push (is_unit g) w s.inequations (symbol_normal v) (symbol_no_unit v b3.0) (is_false (is_member g w s.inequations) b1.1) k.1), ((fact.put is_zero i w s.equations (symbol_normal v) k.0, k.1), tt)) a2.1
+
+  -- ---- that all members are norms
+  -- of both lists
+  abbrev pub AreNormal : State → Type 0
+  AreNormal s = AllOf (λ p. norm p ≡ p) s.equations × AllOf (λ p. norm p ≡ p) s.inequations
+
+  normal_lists : IsListFact (λ d ps. AllOf (λ p. norm p ≡ p) ps)
+  normal_lists = record {
+    normal = λ d ps h. h;
+    put = λ d i p ps n h. put_all (λ p. norm p ≡ p) (d p || is_member g p (without_place i ps)) i p ps n (all_without (λ p. norm p ≡ p) i ps h);
+    push = λ d p ps n e f h. all_push (λ p. norm p ≡ p) ps p h n;
+  }
+
+  -- moves and forks keep norms
+  pub perform_normal : (s : State) (action : Action) (d : Done) → StateOver r few s → AreNormal s → perform (setting_of r) s action ≡ Ok d → AllOf AreNormal d.after
+  perform_normal s action d h k e =
+      all_give (IsSettled (λ d ps. AllOf (λ p. norm p ≡ p) ps) normal_lists) AreNormal (λ t x. x.0) d.after (perform_lists (λ d ps. AllOf (λ p. norm p ≡ p) ps) normal_lists s action d h k e)
+
+  root_normal : (drops : Polynomial Symbol → Bool) (kept ps : Polynomials) → AllOf (λ p. norm p ≡ p) kept → AllOf (IsOver r) ps → AllOf (λ p. norm p ≡ p) (kept_norms g drops kept ps)
+  root_normal drops kept [] h k = h
+  root_normal drops kept (p ∷ ps) h k =
+      by_test (drops (norm p) || is_member g (norm p) kept) (root_normal drops kept ps h k.1) (root_normal drops (kept ++ norm p ∷ []) ps (all_push (λ p. norm p ≡ p) kept (norm p) h (norm_idempotent (ranking_cmp r) p (k.0).canonical)) k.1)
+    where
+      by_test : (b : Bool) → AllOf (λ p. norm p ≡ p) (kept_norms g drops kept ps) → AllOf (λ p. norm p ≡ p) (kept_norms g drops (kept ++ norm p ∷ []) ps)
+          → AllOf (λ p. norm p ≡ p) (if b then kept_norms g drops kept ps else kept_norms g drops (kept ++ norm p ∷ []) ps)
+      by_test true x y = x
+      by_test false x y = y
+
+  -- the root has norms alone
+  pub root_is_normal : (system : System) → AreOver r system.equations system.inequations → AreNormal (root_of g system)
+  unfolding root_of
+  root_is_normal system over = (root_normal is_zero [] system.equations tt over.equations_over, root_normal (is_unit g) [] system.inequations tt over.inequations_over)
+
+  -- ---- all facts of a state
+  kept_lists : IsListFact Kept
+  kept_lists = record { normal = λ d ps h. h.normalised; put = kept_put; push = kept_push }
+
+  perform_facts : (s : State) (action : Action) (d : Done) → StateOver r few s → IsStateOf g s → perform (setting_of r) s action ≡ Ok d → AllOf (IsStateOf g) d.after
+  perform_facts s action d h k e =
+      all_give (IsSettled Kept kept_lists) (IsStateOf g) (λ t x. facts_of t (x.0).0 (x.0).1 x.1) d.after (perform_lists Kept kept_lists s action d h (equations_kept s k, inequations_kept s k) e)
 
 -- the root has the facts, and moves and forks keep them
 pub state_laws : (r : RankingValue) → r.signature.independents ≤ 4 → StateLaws r

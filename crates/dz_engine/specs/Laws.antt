@@ -14,7 +14,7 @@ use Rattle.dz_tree.specs.Lines.{Line, entries_of}
 use Rattle.dz_tree.specs.Walk.{Tree, ends_of}
 use Rattle.dz_engine.specs.Order.{next_entry}
 use Rattle.dz_engine.specs.Worked.{IsWorked, worked_lines}
-use Rattle.dz_engine.specs.Ready.{EntryHolds, IsReached, IsReady}
+use Rattle.dz_engine.specs.Ready.{EntryHolds, IsNormal, IsReached, IsReady}
 
 -- two worked trees of a system with one budget have the same entries, and a worked tree is certified
 pub record WorkedLaws (g : Setting) : Type 0 where
@@ -31,9 +31,8 @@ pub record StateLaws (r : RankingValue) : Type 0 where
 
 -- the order of work never stands without an answer, over a ranking and within a budget
 pub record OrderLaws (r : RankingValue) (budget : ℕ) : Type 0 where
-  -- at a state over the ranking that has the facts of a state and is ready, the line that is named holds, with its evidence
-  pub holds : (w : ℕ) (s : State) → w ≤ budget → AreOver r s.equations s.inequations → IsStateOf (symbols_under r) s → IsReady r budget w s → EntryHolds (setting_of r) budget w s (next_entry (setting_of r) budget w s)
-  -- for a system over the ranking that passes no limit, where every state that is reached is ready, there is a worked tree,
-  -- found in so many rounds
-  pub is_there : (system : System) → AreOver r system.equations system.inequations → system_limit system ≡ None → ((w : ℕ) (s : State) → w ≤ budget → IsReached (setting_of r) system s → IsReady r budget w s)
+  -- at a state over the ranking that is ready and whose members are norms, the line that is named holds, with its evidence
+  pub holds : (w : ℕ) (s : State) → w ≤ budget → AreOver r s.equations s.inequations → AllOf IsNormal s.equations → AllOf IsNormal s.inequations → IsReady r budget w s → EntryHolds (setting_of r) budget w s (next_entry (setting_of r) budget w s)
+  -- for a system over the ranking, where every state that is reached is ready, there is a worked tree, found in so many rounds
+  pub is_there : (system : System) → AreOver r system.equations system.inequations → ((w : ℕ) (s : State) → w ≤ budget → IsReached (setting_of r) system s → IsReady r budget w s)
       → IsWorked (setting_of r) system (record { budget = budget; lines = worked_lines (setting_of r) budget (2 * budget + 1) system })

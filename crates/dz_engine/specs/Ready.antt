@@ -1,6 +1,7 @@
 -- What is asked of a state, so that the order of work names a line that holds there (this project).
 use Rattle.std.specs.Prelude.{◌≡◌, ℕ, false, true, List, [], ◌∷◌, Ok, Err, Some, None, IsOk}
 use Rattle.std.specs.List.{list_all}
+use Rattle.dz_algebra.specs.Norm.{norm}
 use Rattle.dz_algebra.specs.Parts.{leader}
 use Rattle.dz_algebra.specs.Polynomial.{Polynomial}
 use Rattle.dz_algebra.specs.Size.{Refusal, wide, separant_answer}
@@ -27,6 +28,10 @@ abbrev pub SeparantsAreWide : Setting → State → Type 0
 SeparantsAreWide g s =
     (i : ℕ) (p : Polynomial Symbol) (l : Symbol) (r : Refusal) → at_place i s.equations ≡ Some p → leader g.symbols p ≡ Some l → separant_answer g.symbols l p ≡ Err r → r ≡ wide
 
+-- a polynomial is its own norm
+abbrev pub IsNormal : Polynomial Symbol → Type 0
+IsNormal p = norm p ≡ p
+
 -- the pairs of places that evidence is for
 abbrev pub places_of : List Evidence → List (ℕ × ℕ)
 places_of [] = []
@@ -40,7 +45,7 @@ pub record AtRest (g : Setting) (s : State) : Type 0 where
   -- it is a chain, but for the runs of its evidence
   pub is_chain : (es : List Evidence) → places_of es ≡ critical_pairs g.symbols s → chain_rule g s es ≡ Ok tt
 
--- what is asked of a state with its facts, at a running weight
+-- what is asked of a state whose members are norms, at a running weight
 pub record IsReady (r : RankingValue) (budget w : ℕ) (s : State) : Type 0 where
   pub separants : SeparantsAreWide (setting_of r) s
   pub at_rest : is_closed (symbols_under r) s ≡ false → divide_next (setting_of r) budget w s ≡ None → reduce_next (setting_of r) budget w s ≡ None → factor_next (setting_of r) budget w s ≡ None
