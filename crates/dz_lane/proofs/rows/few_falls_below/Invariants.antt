@@ -1,0 +1,12 @@
+use Rattle.std.proofs.Common.{◌≡◌, ◌-◌, ◌≤◌, length, drop, nat_lt}
+use Rattle.dz_lane.specs.Rows.{any_pair}
+use Rattle.dz_lane.proofs.rows.few_falls_below.Given as goal
+
+abbrev pub invariant-vectors : goal.invariant-vectors
+invariant-vectors l = record {
+  inside : l.i ≤ length l.a;
+  same : any_pair (λ x y. nat_lt x y) l.a l.b ≡ any_pair (λ x y. nat_lt x y) (drop l.i l.a) (drop l.i l.b);
+}
+
+abbrev pub decreases-vectors : goal.decreases-vectors
+decreases-vectors l = length l.a - l.i

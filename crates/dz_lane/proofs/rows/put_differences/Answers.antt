@@ -1,0 +1,23 @@
+use Rattle.std.proofs.Common.{◌-◌, ◌∙◌, arith, nat_lt}
+use Rattle.std.proofs.lemmas.Simd.{length-put_chunk}
+use Rattle.dz_lane.proofs.Vectors.{vector_free, vector_put, rest_free, rest_put}
+use Rattle.dz_lane.proofs.rows.put_differences.Goals as goal
+
+pub wide_differences-both-requires : goal.wide_differences-both-requires
+wide_differences-both-requires c = vector_free (λ x y. nat_lt x y) 16 c.vectors.i c.args.a.now c.args.b.now c.requires.lengths.0 c.requires.fit
+
+pub vectors-preserved : goal.vectors-preserved
+vectors-preserved c =
+    let i = c.vectors.i in let a = c.args.a.now in let b = c.args.b.now in let inv = c.vectors.invariant in
+    record {
+      inside = omega (arith, c.vectors-test.true, inv.inside);
+      long = length-put_chunk i c.vectors.into c.wide_differences-both.result ∙ inv.long;
+      done = vector_put (λ x y. x - y) 16 i c.vectors.into a b c.wide_differences-both.result c.requires.lengths.0 inv.long (omega (arith, c.vectors-test.true, inv.inside)) inv.done c.wide_differences-both.ensures;
+    }
+
+pub put_few_differences-requires-clause-fit : goal.put_few_differences-requires-clause-fit
+put_few_differences-requires-clause-fit c = rest_free (λ x y. nat_lt x y) c.vectors.i c.args.a.now c.args.b.now c.requires.lengths.0 c.requires.fit
+
+pub returns : goal.returns
+returns c = rest_put (λ x y. x - y) c.vectors.i c.vectors.into c.args.a.now c.args.b.now c.put_few_differences.new.into c.requires.lengths.0 c.vectors.invariant.long
+    c.vectors.invariant.inside c.vectors.invariant.done c.put_few_differences.ensures
