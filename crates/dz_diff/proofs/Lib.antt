@@ -18,6 +18,4 @@ pub mod KeptStates
 pub mod LeaderBounds
 pub mod Separants
 pub mod ProperDerivatives
-pub mod RootStates
-pub mod KeptNorms
 pub mod MemberTests

@@ -6,9 +6,8 @@ use Rattle.dz_algebra.specs.Symbols.{Symbols}
 use Rattle.dz_rank.specs.declared.symbols.Symbol.{Symbol}
 use Rattle.dz_poly.specs.Books.{BookValue, Lives, polynomial}
 use Rattle.dz_diff.specs.Lists.{AllOf}
-use Rattle.dz_diff.specs.Root.{has_unit, has_zero}
+use Rattle.dz_diff.specs.Tests.{Polynomials, has_unit, has_zero, same}
 use Rattle.dz_diff.specs.State.{State, limit_passed}
-use Rattle.dz_diff.specs.Tests.{Polynomials, same}
 
 -- the facts of a state: it has them at the root, and each move or fork is to keep them
 pub record IsStateOf (g : Symbols Symbol) (s : State) : Type 0 where

@@ -21,6 +21,16 @@ is_zero (t ∷ p) = false
 abbrev pub is_unit : Symbols Symbol → Polynomial Symbol → Bool
 is_unit g p = is_ground g p && not (is_zero p)
 
+-- some polynomial is ground and not zero
+abbrev pub has_unit : Symbols Symbol → Polynomials → Bool
+has_unit g [] = false
+has_unit g (p ∷ ps) = is_unit g p || has_unit g ps
+
+-- some polynomial is zero
+abbrev pub has_zero : Polynomials → Bool
+has_zero [] = false
+has_zero (p ∷ ps) = is_zero p || has_zero ps
+
 -- the order of two equal things
 abbrev pub is_equal : Ordering → Bool
 is_equal Equal = true

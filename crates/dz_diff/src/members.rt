@@ -12,7 +12,7 @@ ghost use Rattle.dz_diff.specs.Tests.{is_member, is_unit};
 
 use crate::parts::leader_of;
 use dz_poly::{Book, Poly};
-use dz_terms::{Entry, Term, copied, into_norm, same_terms};
+use dz_terms::{Entry, copied, into_norm, same_entries};
 use std::alloc::AllocError;
 
 /// The norm of a polynomial of a book; the book keeps the polynomial.
@@ -25,16 +25,16 @@ pub fn norm_entry(book: &Book, p: Poly) -> Result<Entry, AllocError>
     Ok(into_norm(copy))
 }
 
-/// Whether terms are those of a polynomial in a list, the one at the place `left_out` not looked
+/// Whether an entry is of a polynomial in a list, the one at the place `left_out` not looked
 /// at. Places count from 1; 0 leaves out none.
-pub fn is_among(book: &Book, polys: &[Poly], left_out: usize, terms: &[Term]) -> bool
+pub fn is_among(book: &Book, polys: &[Poly], left_out: usize, entry: &Entry) -> bool
     requires { LiveAll book.now polys.now }
-    ensures { result ≡ is_member (symbols_under book.now.ranking) terms.now
+    ensures { result ≡ is_member (symbols_under book.now.ranking) entry.now.terms.items
         (without_place left_out (polynomials book.now polys.now)) }
 {
     'places: for k in 0..polys.len() {
         let other = book.entry(polys[k]);
-        if k + 1 != left_out && same_terms(book.ranking(), terms, other.terms.as_slice()) {
+        if k + 1 != left_out && same_entries(book.ranking(), entry, other) {
             return true;
         }
     }

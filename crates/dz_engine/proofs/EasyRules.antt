@@ -18,7 +18,7 @@ use Rattle.dz_diff.specs.Lists.{AllOf}
 use Rattle.dz_diff.specs.Tests.{is_member, same}
 use Rattle.dz_diff.specs.Operations.{Setting}
 use Rattle.dz_diff.specs.State.{State, at_place, put_equation, limit_passed}
-use Rattle.dz_diff.specs.Root.{is_closed}
+use Rattle.dz_tree.specs.Root.{is_closed}
 use Rattle.dz_diff.proofs.Answers.{both}
 use Rattle.dz_step.specs.declared.Which.{Which}
 use Rattle.dz_step.specs.declared.Which.TheVariants.{Initial, Separant}
@@ -34,8 +34,13 @@ use Rattle.dz_tree.specs.Lines.{act, closed, spent, open_separant, Entry}
 use Rattle.dz_tree.specs.Reasons.{limit_number, is_wide, is_large_by, refused_after, separant_refused, reason_holds}
 use Rattle.dz_tree.specs.Walk.{Below, entered}
 use Rattle.dz_engine.specs.Order.{line_alone, open_line, plain, first_place, first_symbol, symbols_of, closed_next, divide_next, factor_next, split_on, split_next}
-use Rattle.dz_engine.specs.Ready.{EntryHolds, SeparantsAreWide}
+use Rattle.dz_engine.specs.Resting.{EntryHolds}
 use Rattle.dz_engine.proofs.WorkedTrees.{plain_holds}
+
+-- a separant of an equation is refused only if it is wide
+abbrev pub SeparantsAreWide : Setting → State → Type 0
+SeparantsAreWide g s =
+    (i : ℕ) (p : Polynomial Symbol) (l : Symbol) (r : Refusal) → at_place i s.equations ≡ Some p → leader g.symbols p ≡ Some l → separant_answer g.symbols l p ≡ Err r → r ≡ wide
 
 -- ---- refusals that an open end may tell
 -- an operation is refused or a state passes a limit, and no other rule fails

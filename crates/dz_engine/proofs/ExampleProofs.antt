@@ -5,7 +5,7 @@ use Rattle.dz_algebra.specs.Polynomial.{polynomial_one}
 use Rattle.dz_algebra.specs.Size.{support, fits, refusal, operation}
 use Rattle.dz_rank.specs.Rankings.{ranking_cmp}
 use Rattle.dz_terms.specs.Ranked.{symbol_rate}
-use Rattle.dz_diff.specs.Root.{root_of}
+use Rattle.dz_tree.specs.Root.{root_of}
 use Rattle.dz_step.specs.FullRun.{full_run}
 use Rattle.dz_tree.specs.Moves.{reduced, weeded, grown, divided_at, split_at, factored}
 use Rattle.dz_tree.specs.Chain.{chain_rule, evidence_weight}

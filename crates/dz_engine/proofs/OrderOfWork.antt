@@ -1,20 +1,22 @@
 -- The order of work never stands at a state without a line that holds, and leads to a tree.
-use Rattle.std.specs.Prelude.{⊤, map, MatchResult}
-use Rattle.std.proofs.Common.{◌≡◌, ℕ, suc, ◌+◌, ◌*◌, ◌≤◌, nat_le, Bool, true, false, cond, List, [], ◌∷◌, ◌++◌, length, refl, sym, ap, ◌∙◌, arith, subst, Result, Ok, Err, Option, Some, None, IsOk, inl, inr}
+use Rattle.std.specs.Prelude.{⊤, MatchResult}
+use Rattle.std.proofs.Common.{◌≡◌, ℕ, suc, ◌+◌, ◌*◌, ◌≤◌, nat_le, Bool, true, false, cond, List, [], ◌∷◌, ◌++◌, length, refl, ap, ◌∙◌, arith, subst, Result, Ok, Err, Option, Some, None, IsOk}
 use Rattle.std.proofs.lemmas.Bool.{leb-true}
 use Rattle.dz_algebra.specs.Polynomial.{Polynomial}
 use Rattle.dz_rank.specs.Rankings.{RankingValue}
 use Rattle.dz_rank.specs.declared.symbols.Symbol.{Symbol}
 use Rattle.dz_diff.specs.Outcome.{◌>>=◌, needs, numbered, told_as}
-use Rattle.dz_diff.specs.Lists.{AllOf, SomeOf}
+use Rattle.dz_diff.specs.Lists.{AllOf}
 use Rattle.dz_terms.proofs.SymbolLaws.{ranking_order}
 use Rattle.dz_diff.specs.Operations.{Setting, setting_of}
-use Rattle.dz_diff.specs.Over.{IsOver, AreOver}
+use Rattle.dz_diff.specs.Over.{IsOver}
 use Rattle.dz_diff.specs.State.{State, at_place}
-use Rattle.dz_diff.specs.Root.{System, is_closed, root_of}
+use Rattle.dz_tree.specs.Root.{is_closed}
 use Rattle.dz_diff.proofs.Answers.{bind_ok, told_ok, then_ok, ok_same}
 use Rattle.dz_diff.specs.Tests.{Polynomials}
+use Rattle.dz_terms.specs.Entries.{IsKeepable}
 use Rattle.dz_terms.specs.Ranked.{symbols_under}
+use Rattle.dz_diff.specs.States.{IsStateOf}
 use Rattle.dz_step.specs.declared.Role.TheVariants.{Free, Equation, Inequation}
 use Rattle.dz_algebra.specs.Norm.{norm}
 use Rattle.dz_rank.specs.Symbols.{IsOperatorOf}
@@ -33,21 +35,25 @@ use Rattle.dz_tree.specs.Reasons.{reason_holds}
 use Rattle.dz_tree.specs.Walk.{Below, ended, nothing_below, told_at_line, entered}
 use Rattle.dz_tree.proofs.Progress.{perform_leads}
 use Rattle.dz_engine.specs.Order.{line_alone, closed_next, divide_next, reduce_next, factor_next, split_next, weed_next, pairs_next, first_of, next_entry}
-use Rattle.dz_engine.specs.Worked.{IsWorkedFrom, IsWorked, worked_from, worked_lines}
-use Rattle.dz_engine.specs.Ready.{IsReady, IsReached, EntryHolds}
-use Rattle.dz_engine.specs.Laws.{OrderLaws}
+use Rattle.dz_engine.specs.Worked.{IsWorkedFrom, worked_from}
+use Rattle.dz_tree.specs.Standing.{IsStateOver, MayStand}
+use Rattle.dz_engine.specs.Resting.{EntryHolds}
 use Rattle.dz_engine.proofs.WorkedTrees.{Goes, worked_is_there}
-use Rattle.dz_engine.proofs.EasyRules.{closed_goes, divide_goes, factor_goes, split_goes}
-use Rattle.dz_engine.proofs.OverOperations.{step_over, next_fits, norm_over, delta_over}
-use Rattle.dz_engine.proofs.OverStates.{StateOver, perform_over, root_over}
-use Rattle.dz_engine.proofs.StateFacts.{AreNormal, all_give, all_two, perform_normal, root_is_normal}
+use Rattle.dz_engine.proofs.EasyRules.{SeparantsAreWide, closed_goes, divide_goes, factor_goes, split_goes}
+use Rattle.dz_tree.proofs.OverOperations.{step_over, next_fits, norm_over, delta_over}
+use Rattle.dz_tree.proofs.KeepableStates.{keepables_over}
+use Rattle.dz_tree.proofs.LowRuns.{coherent}
+use Rattle.dz_tree.proofs.TreeEntries.{evidence_grouped}
+use Rattle.dz_tree.proofs.StateFacts.{state_laws}
+use Rattle.dz_engine.proofs.RestingChains.{is_chain}
 use Rattle.dz_engine.proofs.RestingPlaces.{chain_admits}
+use Rattle.dz_engine.proofs.SmallSeparants.{separant_is_wide}
 use Rattle.dz_engine.proofs.RunRules.{StepsGo, NeverReturns, reduce_goes, weed_goes}
-use Rattle.dz_engine.proofs.PairRules.{pairs_goes}
+use Rattle.dz_engine.proofs.PairRules.{PairsRest, pairs_goes}
 
 -- ---- the line that is next
 -- the first that there is, or else the rest
-first_is : {A : Type 0} (P : A → Type 0) (o : Option A) (os : List (Option A)) (x : A) → ((e : A) → o ≡ Some e → P e) → (o ≡ None → P (first_of os x)) → P (first_of (o ∷ os) x)
+pub first_is : {A : Type 0} (P : A → Type 0) (o : Option A) (os : List (Option A)) (x : A) → ((e : A) → o ≡ Some e → P e) → (o ≡ None → P (first_of os x)) → P (first_of (o ∷ os) x)
 first_is P None os x f k = k refl
 first_is P (Some e) os x f k = f e refl
 
@@ -59,7 +65,7 @@ not_closed g s e = by_test (is_closed g.symbols s) e
     by_test true e = cc
     by_test false e = refl
 
-module _ (r : RankingValue) (few : r.signature.independents ≤ 4) (budget w : ℕ) (s : State) (states : AreOver r s.equations s.inequations) (normal : AreNormal r few s) (ready : IsReady r budget w s) (low : w ≤ budget) where
+module _ (r : RankingValue) (few : r.signature.independents ≤ 4) (budget w : ℕ) (s : State) (stand : MayStand r s.equations s.inequations) (facts : IsStateOf (symbols_under r) s) (low : w ≤ budget) where
   abbrev g : Setting
   g = setting_of r
 
@@ -67,9 +73,12 @@ module _ (r : RankingValue) (few : r.signature.independents ≤ 4) (budget w : �
   abbrev Fits : Step → Type 0
   Fits st = IsOperatorOf r.signature.independents st.operator
 
-  -- all equations are over the ranking
+  -- all members are over the ranking
   over : AllOf (IsOver r) s.equations
-  over = states.equations_over
+  over = keepables_over r few s.equations stand.equations_keepable
+
+  inequations_over : AllOf (IsOver r) s.inequations
+  inequations_over = keepables_over r few s.inequations stand.inequations_keepable
 
   -- over the ranking, and normalised
   all_fine : (ps : Polynomials) → AllOf (IsOver r) ps → AllOf (λ p. norm p ≡ p) ps → AllOf (λ p. IsOver r p × (norm p ≡ p)) ps
@@ -81,7 +90,7 @@ module _ (r : RankingValue) (few : r.signature.independents ≤ 4) (budget w : �
   laws = reduction_laws r s few over
 
   -- steps keep polynomials over the ranking, and full runs take steps
-  steps_go : (role : Role) → StepsGo g s role (IsOver r) Fits
+  pub steps_go : (role : Role) → StepsGo g s role (IsOver r) Fits
   steps_go role = record {
     keeps = λ f x st h e. step_over r few s role f x st over h e;
     next_is_step = λ f st h e. laws.next_is_step role f st h e;
@@ -92,9 +101,24 @@ module _ (r : RankingValue) (few : r.signature.independents ≤ 4) (budget w : �
   never_returns : (role : Role) → NeverReturns g s role (IsOver r) Fits
   never_returns role f st steps x h fits e = laws.never_returns role f st steps x h fits e
 
+  -- a separant is refused only where it does not fit
+  separants_wide : SeparantsAreWide g s
+  separants_wide i p l refusal a e h = separant_is_wide r l p refusal (taken (IsKeepable r) i p s.equations a stand.equations_keepable).0 h
+
+  -- the equation at a place is over the ranking
+  over_at : (i : ℕ) (p : Polynomial Symbol) → at_place i s.equations ≡ Some p → IsOver r p
+  over_at i p a = (taken (IsOver r) i p s.equations a over).0
+
   -- a Delta-polynomial is over the ranking
-  delta_fine : (i j : ℕ) (p q d : Polynomial Symbol) → at_place i s.equations ≡ Some p → at_place j s.equations ≡ Some q → delta_answer g p q ≡ Ok d → IsOver r (norm d)
-  delta_fine i j p q d a b e = norm_over r few d (delta_over r few p q d e (taken (IsOver r) i p s.equations a over).0 (taken (IsOver r) j q s.equations b over).0)
+  pub delta_fine : (i j : ℕ) (p q d : Polynomial Symbol) → at_place i s.equations ≡ Some p → at_place j s.equations ≡ Some q → delta_answer g p q ≡ Ok d → IsOver r (norm d)
+  delta_fine i j p q d a b e = norm_over r few d (delta_over r few p q d e (over_at i p a) (over_at j q b))
+
+  -- where the first six rules name nothing
+  pairs_rest : closed_next g s ≡ None → reduce_next g budget w s ≡ None → split_next g budget w s ≡ None → weed_next g budget w s ≡ None → PairsRest g s Fits
+  pairs_rest c q p v = record {
+    coherent = λ i j p q d steps x a b pair h fits e. coherent r few s p q d steps x over (over_at i p a) (over_at j q b) pair h fits e;
+    is_chain = is_chain r few budget w s over inequations_over (record { unclosed = not_closed g s c; no_zero = facts.no_zero; unreduced = q; unsplit = p }) v;
+  }
 
   -- the line that is next holds
   pub next_holds : EntryHolds g budget w s (next_entry g budget w s)
@@ -102,11 +126,11 @@ module _ (r : RankingValue) (few : r.signature.independents ≤ 4) (budget w : �
   next_holds =
       first_is (EntryHolds g budget w s) (closed_next g s) _ _ (closed_goes g budget w s) (λ c.
       first_is (EntryHolds g budget w s) (divide_next g budget w s) _ _ (divide_goes g budget w s) (λ d.
-      first_is (EntryHolds g budget w s) (reduce_next g budget w s) _ _ (reduce_goes g (ranking_order r) budget w s (IsOver r) Fits (λ i. (steps_go (Equation i), never_returns (Equation i))) (all_fine s.equations over normal.0)) (λ q.
+      first_is (EntryHolds g budget w s) (reduce_next g budget w s) _ _ (reduce_goes g (ranking_order r) budget w s (IsOver r) Fits (λ i. (steps_go (Equation i), never_returns (Equation i))) (all_fine s.equations over facts.equations_normalised)) (λ q.
       first_is (EntryHolds g budget w s) (factor_next g budget w s) _ _ (factor_goes g budget w s) (λ f.
-      first_is (EntryHolds g budget w s) (split_next g budget w s) _ _ (split_goes g budget w s ready.separants) (λ p.
-      first_is (EntryHolds g budget w s) (weed_next g budget w s) [] (pairs_next g budget s w [] (critical_pairs g.symbols s)) (weed_goes g (ranking_order r) budget w s (IsOver r) Fits (λ i. (steps_go (Inequation i), never_returns (Inequation i))) (all_fine s.inequations states.inequations_over normal.1)) (λ v.
-      let rest = ready.at_rest (not_closed g s c) d q f p v in
+      first_is (EntryHolds g budget w s) (split_next g budget w s) _ _ (split_goes g budget w s separants_wide) (λ p.
+      first_is (EntryHolds g budget w s) (weed_next g budget w s) [] (pairs_next g budget s w [] (critical_pairs g.symbols s)) (weed_goes g (ranking_order r) budget w s (IsOver r) Fits (λ i. (steps_go (Inequation i), never_returns (Inequation i))) (all_fine s.inequations inequations_over facts.inequations_normalised)) (λ v.
+      let rest = pairs_rest c q p v in
       pairs_goes g budget w s (IsOver r) Fits (steps_go Free) rest delta_fine (chain_admits r few s over rest.is_chain) low))))))
 
 -- ---- what stands below
@@ -141,7 +165,7 @@ module _ (g : Setting) (budget w : ℕ) (s : State) (FineState : State → Type 
   open_is line = (omega (arith, low), omega arith, tt)
 
   -- what stands below an entry that holds
-  below_is : (line : Line) (es : List Evidence) (b : Below) → entered g budget w s line es ≡ Ok b → IsBelow b
+  pub below_is : (line : Line) (es : List Evidence) (b : Below) → entered g budget w s line es ≡ Ok b → IsBelow b
   unfolding entered
   below_is (act action) es b e =
       let a = bind_ok (told_as told_at_line (perform g s action)) _ b e in
@@ -169,21 +193,13 @@ module _ (g : Setting) (budget w : ℕ) (s : State) (FineState : State → Type 
       by_answer (Err r) e h = cc
 
 -- ---- the worked tree
--- the worked entries are there, where each state is ready and stays so
-pub entries_there : (r : RankingValue) → (few : r.signature.independents ≤ 4) → (budget : ℕ) (FineState : State → Type 0)
-    → ((w : ℕ) (s : State) → w ≤ budget → FineState s → AreOver r s.equations s.inequations × (AreNormal r few s × IsReady r budget w s))
-    → ((s : State) (action : Action) (d : Done) → FineState s → perform (setting_of r) s action ≡ Ok d → AllOf FineState d.after)
-    → (s : State) → FineState s → IsWorkedFrom (setting_of r) budget 0 (s ∷ []) (worked_from (setting_of r) budget (2 * budget + 1) 0 (s ∷ []))
-entries_there r few budget FineState ready kept s h =
-    worked_is_there (setting_of r) budget FineState (λ w t low k. goes_from (setting_of r) budget w t FineState (λ action d e. kept t action d k e) low (let x = ready w t low k in next_holds r few budget w t x.0 (x.1).0 (x.1).1 low))
+-- the worked entries from a state are there
+pub entries_there : (r : RankingValue) → r.signature.independents ≤ 4 → (budget : ℕ) (s : State) → IsStateOver r s → IsWorkedFrom (setting_of r) budget 0 (s ∷ []) (worked_from (setting_of r) budget (2 * budget + 1) 0 (s ∷ []))
+entries_there r few budget s h =
+    worked_is_there (setting_of r) budget (IsStateOver r) (λ w t low k. goes_from (setting_of r) budget w t (IsStateOver r) (λ action d e. (state_laws r few).kept t action d k e) low (next_holds r few budget w t k.stands k.facts low))
     (2 * budget + 1) 0 budget (s ∷ []) (omega arith) (omega arith) (h, tt)
 
 -- ---- lines and entries
--- evidence that follows a line is that of its entry
-evidence_grouped : (es : List Evidence) (lines : List Line) (more : List Entry) → grouped lines ≡ ([], more) → grouped (map pair es ++ lines) ≡ (es, more)
-evidence_grouped [] lines more h = h
-evidence_grouped (e ∷ es) lines more h = ap (with_line (pair e)) (evidence_grouped es lines more h)
-
 module _ (g : Setting) (budget : ℕ) where
   -- a line that holds is not evidence
   line_grouped : (w : ℕ) (s : State) (line : Line) (es : List Evidence) (more : List Entry) (b : Below) → entered g budget w s line es ≡ Ok b → with_line line (es, more) ≡ ([], record { line = line; evidence = es } ∷ more)
@@ -199,7 +215,7 @@ module _ (g : Setting) (budget : ℕ) where
   line_grouped w s (open_large limit action) es more b e = refl
 
   -- worked entries are those of their lines
-  worked_grouped : (w : ℕ) (pending : List State) (es : List Entry) → IsWorkedFrom g budget w pending es → grouped (lines_of es) ≡ ([], es)
+  pub worked_grouped : (w : ℕ) (pending : List State) (es : List Entry) → IsWorkedFrom g budget w pending es → grouped (lines_of es) ≡ ([], es)
   worked_grouped w [] [] h = refl
   worked_grouped w [] (e ∷ es) h = absurd h
   worked_grouped w (s ∷ pending) [] h = absurd h
@@ -209,34 +225,3 @@ module _ (g : Setting) (budget : ℕ) where
           → MatchResult q (λ b. IsWorkedFrom g budget (w + b.weight) (b.states ++ pending) es) (λ r. ⊥) → grouped (lines_of (e ∷ es)) ≡ ([], e ∷ es)
       by_answer (Ok b) f ih h = ap (with_line e.line) (evidence_grouped e.evidence (lines_of es) es (ih b h)) ∙ line_grouped w s e.line e.evidence es b f
       by_answer (Err r) f ih h = absurd h
-
--- ---- the states that are reached
--- each member is one of the list
-all_of_themselves : {A : Type 0} (xs : List A) → AllOf (λ x. SomeOf (λ y. x ≡ y) xs) xs
-all_of_themselves xs = from_inside xs (λ x h. h)
-  where
-    from_inside : (ys : List _) → ((x : _) → SomeOf (λ y. x ≡ y) ys → SomeOf (λ y. x ≡ y) xs) → AllOf (λ x. SomeOf (λ y. x ≡ y) xs) ys
-    from_inside [] inside = tt
-    from_inside (y ∷ ys) inside = (inside y (inl refl), from_inside ys (λ x h. inside x (inr h)))
-
--- what an action leads to is reached
-reached_after : (g : Setting) (system : System) (s : State) (action : Action) (d : Done) → IsReached g system s → perform g s action ≡ Ok d → AllOf (IsReached g system) d.after
-reached_after g system s action d h e =
-    all_give (λ t. SomeOf (λ u. t ≡ u) d.after) (IsReached g system) (λ t k. (action ∷ h.0, (s, d, h.1, e, k))) d.after (all_of_themselves d.after)
-
--- ---- the laws
--- a worked tree is there, where every state that is reached is ready
-tree_there : (r : RankingValue) → r.signature.independents ≤ 4 → (budget : ℕ) (system : System) → AreOver r system.equations system.inequations → ((w : ℕ) (s : State) → w ≤ budget → IsReached (setting_of r) system s → IsReady r budget w s)
-    → IsWorked (setting_of r) system (record { budget = budget; lines = worked_lines (setting_of r) budget (2 * budget + 1) system })
-tree_there r few budget system of_system ready =
-    let root = root_of (symbols_under r) system in
-    let IsFine : State → Type 0 = λ s. StateOver r few s × AreNormal r few s in
-    let h = entries_there r few budget (λ s. IsReached (setting_of r) system s × IsFine s) (λ w s low k. ((k.1).0, ((k.1).1, ready w s low k.0)))
-    (λ s action d k e. all_two (IsReached (setting_of r) system) IsFine d.after (reached_after (setting_of r) system s action d k.0 e)
-    (all_two (StateOver r few) (AreNormal r few) d.after (perform_over r few s action d (k.1).0 e) (perform_normal r few s action d (k.1).0 (k.1).1 e))) root
-    (([], refl), (root_over r few system of_system, root_is_normal r few system of_system)) in
-    subst (λ (es : List Entry). IsWorkedFrom (setting_of r) budget 0 (root ∷ []) es) (sym (ap (λ (q : List Evidence × List Entry). q.1) (worked_grouped (setting_of r) budget 0 (root ∷ []) _ h))) h
-
--- the laws of the order of work
-pub order_laws : (r : RankingValue) → r.signature.independents ≤ 4 → (budget : ℕ) → OrderLaws r budget
-order_laws r few budget = record { holds = λ w s low states es hs ready. next_holds r few budget w s states (es, hs) ready low; is_there = tree_there r few budget }

@@ -26,15 +26,17 @@ use Rattle.dz_tree.specs.declared.Rule.{Rule}
 use Rattle.dz_tree.specs.declared.Rule.TheVariants as rules
 use Rattle.dz_tree.specs.Fault.{Fault, refusal, rule, fault_of, rule_of, rule_of_refusal, run_fault}
 use Rattle.dz_tree.specs.Moves.{add, Done, within, settled, with_equations, grown, perform}
-use Rattle.dz_tree.specs.Chain.{Evidence, passes, is_below, evidence_weight, evidence_from}
+use Rattle.dz_tree.specs.Chain.{Evidence, chain_rule, passes, is_below, evidence_weight, evidence_from}
 use Rattle.dz_tree.specs.Lines.{act, chain, spent_pairs, Entry}
 use Rattle.dz_tree.specs.Reasons.{open_weight, open_weights, weighs_more, is_increasing, is_empty, reason_holds}
 use Rattle.dz_tree.specs.Walk.{Below, ended, told_at_line, entered}
+use Rattle.dz_tree.proofs.CriticalPairs.{NamesPair, critical_pairs_name}
+use Rattle.dz_tree.proofs.KeptMembers.{all_give}
 use Rattle.dz_engine.specs.Order.{line_alone, open_line, affordable, with_evidence, evidence, after_course, delta_at, after_delta, pairs_next}
-use Rattle.dz_engine.specs.Ready.{AtRest, places_of, EntryHolds}
+use Rattle.dz_engine.specs.Resting.{EntryHolds}
 use Rattle.dz_engine.proofs.EasyRules.{and_is, needs_is, given_is, holds_needs, open_holds}
 use Rattle.dz_step.proofs.Courses.{full_run_low}
-use Rattle.dz_engine.proofs.RunRules.{StepsGo, full_run_stopped, full_run_passed, is_not}
+use Rattle.dz_engine.proofs.RunRules.{StepsGo, full_run_fits, full_run_stopped, full_run_passed, is_not}
 
 -- ---- critical pairs rise
 -- a pair of places is before another
@@ -45,11 +47,6 @@ before p q = nat_lt p.0 q.0 || ((p.0 == q.0) && nat_lt p.1 q.1)
 abbrev Sorted : List (ℕ × ℕ) → Type 0
 Sorted [] = ⊤
 Sorted (p ∷ ps) = AllOf (λ q. before p q ≡ true) ps × Sorted ps
-
--- what follows for each member
-all_give : {A : Type 0} (P Q : A → Type 0) → ((x : A) → P x → Q x) → (xs : List A) → AllOf P xs → AllOf Q xs
-all_give P Q give [] h = tt
-all_give P Q give (x ∷ xs) h = (give x h.0, all_give P Q give xs h.1)
 
 -- two lists, the first before the second
 sorted-append : (xs ys : List (ℕ × ℕ)) → Sorted xs → Sorted ys → AllOf (λ x. AllOf (λ y. before x y ≡ true) ys) xs → Sorted (xs ++ ys)
@@ -62,7 +59,7 @@ or_left true b e = refl
 or_left false b e = cc
 
 -- the other part makes it too
-or_right : (a b : Bool) → b ≡ true → (a || b) ≡ true
+pub or_right : (a b : Bool) → b ≡ true → (a || b) ≡ true
 or_right true b e = refl
 or_right false b e = e
 
@@ -107,42 +104,24 @@ module _ (g : Symbols Symbol) where
       (all_give (λ (x : ℕ × ℕ). (x.0 ≡ i) × (suc i ≤ x.1)) (λ x. AllOf (λ y. before x y ≡ true) (pairs_from g (suc i) ps))
       (λ x h. all_give (λ (y : ℕ × ℕ). suc i ≤ y.0) (λ y. before x y ≡ true) (λ y k. before_first x y (omega (arith, h.0, k))) (pairs_from g (suc i) ps) (from_all (suc i) ps)) (pairs_with g i (suc i) p ps) (with_all i (suc i) p ps))
 
-  -- ---- and name equations
-  module _ (es : List (Polynomial Symbol)) where
-    -- two places, the first less, whose equations are a critical pair
-    pub record NamesPair (x : ℕ × ℕ) : Type 0 where
-      pub first : Polynomial Symbol
-      pub second : Polynomial Symbol
-      pub rises : nat_lt x.0 x.1 ≡ true
-      pub first_is : at_place x.0 es ≡ Some first
-      pub second_is : at_place x.1 es ≡ Some second
-      pub is_one : is_pair g first second ≡ true
-
-    -- the pairs of one equation are such
-    with_names : (i j : ℕ) (p : Polynomial Symbol) (qs : List (Polynomial Symbol)) → i < j → at_place i es ≡ Some p → ((k : ℕ) (x : Polynomial Symbol) → at_place (suc k) qs ≡ Some x → at_place (j + k) es ≡ Some x) → AllOf NamesPair (pairs_with g i j p qs)
-    with_names i j p [] l a inside = tt
-    with_names i j p (q ∷ qs) l a inside = by_test (is_pair g p q) refl (with_names i (suc j) p qs (omega (arith, l)) a (λ k x h. ap (λ n. at_place n es) (omega arith) ∙ inside (suc k) x h))
-      where
-        by_test : (b : Bool) → is_pair g p q ≡ b → AllOf NamesPair (pairs_with g i (suc j) p qs) → AllOf NamesPair (cond b ((i, j) ∷ pairs_with g i (suc j) p qs) (pairs_with g i (suc j) p qs))
-        by_test true e h = (record { first = p; second = q; rises = lt-ltb i j l; first_is = a; second_is = ap (λ n. at_place n es) (omega arith) ∙ inside 0 q refl; is_one = e }, h)
-        by_test false e h = h
-
-    -- and so are those from a place on
-    from_names : (i : ℕ) (ps : List (Polynomial Symbol)) → ((k : ℕ) (x : Polynomial Symbol) → at_place (suc k) ps ≡ Some x → at_place (i + k) es ≡ Some x) → AllOf NamesPair (pairs_from g i ps)
-    from_names i [] inside = tt
-    from_names i (p ∷ ps) inside =
-        let more : (k : ℕ) (x : Polynomial Symbol) → at_place (suc k) ps ≡ Some x → at_place (suc i + k) es ≡ Some x = λ k x h. ap (λ n. at_place n es) (omega arith) ∙ inside (suc k) x h in
-        all-append NamesPair (pairs_with g i (suc i) p ps) (pairs_from g (suc i) ps) (with_names i (suc i) p ps (omega arith) (ap (λ n. at_place n es) (omega arith) ∙ inside 0 p refl) more) (from_names (suc i) ps more)
-
   -- the critical pairs are in their order
   pub critical_pairs_sorted : (s : State) → Sorted (critical_pairs g s)
   critical_pairs_sorted s = from_sorted 1 s.equations
 
-  -- and they are critical pairs of equations
-  pub critical_pairs_name : (s : State) → AllOf (NamesPair s.equations) (critical_pairs g s)
-  critical_pairs_name s = from_names s.equations 1 s.equations (λ k x h. ap (λ n. at_place n s.equations) (omega arith) ∙ h)
-
 -- ---- evidence
+-- the pairs of places that evidence is for
+abbrev pub places_of : List Evidence → List (ℕ × ℕ)
+places_of [] = []
+places_of (e ∷ es) = (e.first, e.second) ∷ places_of es
+
+-- what is asked of a state at which the first six rules of the order of work name nothing
+pub record PairsRest (g : Setting) (s : State) (Fits : Step → Type 0) : Type 0 where
+  -- the steps of a run from the Delta-polynomial of a critical pair are below the least common derivative
+  pub coherent : (i j : ℕ) (p q d : Polynomial Symbol) (steps : List Step) (x : Ran) → at_place i s.equations ≡ Some p → at_place j s.equations ≡ Some q → is_pair g.symbols p q ≡ true
+      → delta_answer g p q ≡ Ok d → AllOf Fits steps → run g s Free d steps ≡ Ok x → passes (λ w. list_all (is_below g.symbols s w) steps) (common g.symbols p q) ≡ true
+  -- it is a chain, but for the runs of its evidence
+  pub is_chain : (es : List Evidence) → places_of es ≡ critical_pairs g.symbols s → chain_rule g s es ≡ Ok tt
+
 -- the places of evidence, and of one more
 places-append : (es : List Evidence) (e : Evidence) (ps : List (ℕ × ℕ)) → places_of (es ++ e ∷ []) ++ ps ≡ places_of es ++ ((e.first, e.second) ∷ ps)
 places-append [] e ps = refl
@@ -197,7 +176,7 @@ module _ (g : Setting) (s : State) where
           ap (λ (q : Result ℕ (ℕ × Fault)). q >>= (λ m. Ok (n + m))) (ih k j) ∙ ap (λ (z : ℕ). Ok z) (omega (arith, l))
 
 -- ---- the pairs
-module _ (g : Setting) (budget w0 : ℕ) (s : State) (Fine : Polynomial Symbol → Type 0) (Fits : Step → Type 0) (go : StepsGo g s Free Fine Fits) (rest : AtRest g s)
+module _ (g : Setting) (budget w0 : ℕ) (s : State) (Fine : Polynomial Symbol → Type 0) (Fits : Step → Type 0) (go : StepsGo g s Free Fine Fits) (rest : PairsRest g s Fits)
     (delta_fine : (i j : ℕ) (p q d : Polynomial Symbol) → at_place i s.equations ≡ Some p → at_place j s.equations ≡ Some q → delta_answer g p q ≡ Ok d → Fine (norm d))
     (admitting : (f : Polynomial Symbol) → is_member g.symbols f s.equations ≡ true → admits g s Free f ≡ true) where
   -- the evidence so far and the weight with it
@@ -241,15 +220,15 @@ module _ (g : Setting) (budget w0 : ℕ) (s : State) (Fine : Polynomial Symbol �
         ∙ ap (λ (q : Result Ran (ℕ × Stop)). told_as run_fault q >>= (λ r. Ok (1 + length d + r.count))) f
 
     -- and of one that comes to zero
-    evidence_weight_is : (steps : List Step) (d : Polynomial Symbol) (x : Ran) → delta_answer g n.first n.second ≡ Ok d → run g s Free d steps ≡ Ok x → is_zero x.end ≡ true → evidence_weight g s (evidence (i, j) steps) ≡ Ok (1 + length d + x.count)
+    evidence_weight_is : (steps : List Step) (d : Polynomial Symbol) (x : Ran) → delta_answer g n.first n.second ≡ Ok d → AllOf Fits steps → run g s Free d steps ≡ Ok x → is_zero x.end ≡ true → evidence_weight g s (evidence (i, j) steps) ≡ Ok (1 + length d + x.count)
     unfolding evidence_weight
-    evidence_weight_is steps d x e f z =
+    evidence_weight_is steps d x e fits f z =
         let ok : (q : Polynomial Symbol) → Polynomial Symbol → Ran → Result ℕ Rule = λ q d r. needs (is_zero r.end && passes (λ w. list_all (is_below g.symbols s w) steps) (common g.symbols n.first q)) rules.Coherence >>= (λ _. Ok (1 + length d + r.count)) in
         given_is (at_place i s.equations) _ _ n.first n.first_is
         ∙ given_is (at_place j s.equations) rules.Pairs (λ q. told_as rule_of_refusal (delta_answer g n.first q) >>= (λ d. told_as (λ e. rule_of (run_fault e).1) (run g s Free d steps) >>= ok q d)) n.second n.second_is
         ∙ ap (λ r. told_as rule_of_refusal r >>= (λ d. told_as (λ e. rule_of (run_fault e).1) (run g s Free d steps) >>= ok n.second d)) e
         ∙ ap (λ r. told_as (λ e. rule_of (run_fault e).1) r >>= ok n.second d) f
-        ∙ needs_is (is_zero x.end && passes (λ w. list_all (is_below g.symbols s w) steps) (common g.symbols n.first n.second)) rules.Coherence (λ _. Ok (1 + length d + x.count)) (and_is _ _ z (rest.coherent i j n.first n.second d steps x n.first_is n.second_is n.is_one e f))
+        ∙ needs_is (is_zero x.end && passes (λ w. list_all (is_below g.symbols s w) steps) (common g.symbols n.first n.second)) rules.Coherence (λ _. Ok (1 + length d + x.count)) (and_is _ _ z (rest.coherent i j n.first n.second d steps x n.first_is n.second_is n.is_one e fits f))
 
     -- the end of an addition
     abbrev last : List Step → Polynomial Symbol → Ran → Result Done (ℕ × Fault)
@@ -316,21 +295,21 @@ module _ (g : Setting) (budget w0 : ℕ) (s : State) (Fine : Polynomial Symbol �
       next : ℕ → List Evidence → Entry
       next w' es' = pairs_next g budget s w' es' ps
 
-      more : (d : Polynomial Symbol) (steps : List Step) (x : Ran) → delta_answer g n.first n.second ≡ Ok d → run g s Free d steps ≡ Ok x → is_zero x.end ≡ true → w + 1 + length d + x.count ≤ budget → SoFar (w + 1 + length d + x.count) (es ++ evidence (i, j) steps ∷ []) ps
-      more d steps x e f z low = record {
+      more : (d : Polynomial Symbol) (steps : List Step) (x : Ran) → delta_answer g n.first n.second ≡ Ok d → AllOf Fits steps → run g s Free d steps ≡ Ok x → is_zero x.end ≡ true → w + 1 + length d + x.count ≤ budget → SoFar (w + 1 + length d + x.count) (es ++ evidence (i, j) steps ∷ []) ps
+      more d steps x e fits f z low = record {
         weight = h.weight + (1 + length d + x.count);
         weight_is = omega (arith, h.weight_is);
         within_budget = low;
-        chained = evidence-append g s (λ n. nat_le (w0 + n) budget) 1 0 h.weight (1 + length d + x.count) es (evidence (i, j) steps) h.chained (evidence_weight_is i j n steps d x e f z) (le-leb (w0 + (h.weight + (1 + length d + x.count))) budget (omega (arith, h.weight_is, low)));
+        chained = evidence-append g s (λ n. nat_le (w0 + n) budget) 1 0 h.weight (1 + length d + x.count) es (evidence (i, j) steps) h.chained (evidence_weight_is i j n steps d x e fits f z) (le-leb (w0 + (h.weight + (1 + length d + x.count))) budget (omega (arith, h.weight_is, low)));
         weighed = weights-append g s h.weight (1 + length d + x.count) es (evidence (i, j) steps) h.weighed (open_weight_is i j n steps d x e f);
         names = places-append es (evidence (i, j) steps) ps ∙ h.names;
       }
 
-      by_zero : (d : Polynomial Symbol) (steps : List Step) (f : Polynomial Symbol) (count : ℕ) (b : Bool) → delta_answer g n.first n.second ≡ Ok d → run g s Free d steps ≡ Ok (record { end = f; count = count }) → next_step g s Free f ≡ None → w + 1 + length d + count ≤ budget → is_zero f ≡ b
+      by_zero : (d : Polynomial Symbol) (steps : List Step) (f : Polynomial Symbol) (count : ℕ) (b : Bool) → delta_answer g n.first n.second ≡ Ok d → AllOf Fits steps → run g s Free d steps ≡ Ok (record { end = f; count = count }) → next_step g s Free f ≡ None → w + 1 + length d + count ≤ budget → is_zero f ≡ b
           → ((w' : ℕ) (es' : List Evidence) → SoFar w' es' ps → EntryHolds g budget w0 s (next w' es'))
           → EntryHolds g budget w0 s (cond b (next (w + 1 + length d + count) (es ++ evidence (i, j) steps ∷ [])) (affordable g s (add i j steps)))
-      by_zero d steps f count true e r q low z ih = ih (w + 1 + length d + count) (es ++ evidence (i, j) steps ∷ []) (more d steps (record { end = f; count = count }) e r z low)
-      by_zero d steps f count false e r q low z ih = affordable_goes i j n steps (with_equations s (s.equations ++ f ∷ []) ∷ []) (1 + length d + count) (grown_settled i j n steps d (record { end = f; count = count }) e r z q) (omega (arith, low, h.weight_is))
+      by_zero d steps f count true e fits r q low z ih = ih (w + 1 + length d + count) (es ++ evidence (i, j) steps ∷ []) (more d steps (record { end = f; count = count }) e fits r z low)
+      by_zero d steps f count false e fits r q low z ih = affordable_goes i j n steps (with_equations s (s.equations ++ f ∷ []) ∷ []) (1 + length d + count) (grown_settled i j n steps d (record { end = f; count = count }) e r z q) (omega (arith, low, h.weight_is))
 
       by_course : (d : Polynomial Symbol) (c : Course) → delta_answer g n.first n.second ≡ Ok d → w + 1 + length d ≤ budget → full_run g s Free (budget - (w + 1 + length d)) d ≡ c
           → ((w' : ℕ) (es' : List Evidence) → SoFar w' es' ps → EntryHolds g budget w0 s (next w' es'))
@@ -345,7 +324,8 @@ module _ (g : Setting) (budget w0 : ℕ) (s : State) (Fine : Polynomial Symbol �
           spent_holds w (1 + length d + (r.2).count) es (evidence (i, j) steps) ps h (open_weight_is i j n steps d r.2 e r.4) (omega (arith, low, r.5))
       by_course d (finished steps end count) e low f ih =
           let r = full_run_is_run g s Free (budget - (w + 1 + length d)) d steps end count f in
-          by_zero d steps end count (is_zero end) e r.0 r.1 (omega (arith, low, full_run_low g s Free (budget - (w + 1 + length d)) d steps end count f)) refl ih
+          let fits = full_run_fits g s Free (budget - (w + 1 + length d)) Fine Fits go d steps end count (delta_fine i j n.first n.second d n.first_is n.second_is e) f in
+          by_zero d steps end count (is_zero end) e fits r.0 r.1 (omega (arith, low, full_run_low g s Free (budget - (w + 1 + length d)) d steps end count f)) refl ih
 
       by_test : (d : Polynomial Symbol) (b : Bool) → delta_answer g n.first n.second ≡ Ok d → nat_lt budget (w + 1 + length d) ≡ b
           → ((w' : ℕ) (es' : List Evidence) → SoFar w' es' ps → EntryHolds g budget w0 s (next w' es'))

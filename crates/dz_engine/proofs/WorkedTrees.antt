@@ -6,13 +6,17 @@ use Rattle.dz_diff.specs.Outcome.{◌>>=◌, needs, told_as}
 use Rattle.dz_diff.specs.Lists.{AllOf}
 use Rattle.dz_diff.specs.Operations.{Setting}
 use Rattle.dz_diff.specs.State.{State}
-use Rattle.dz_diff.specs.Root.{System, root_of}
+use Rattle.dz_tree.specs.Root.{System, root_of}
 use Rattle.dz_diff.proofs.Places.{all-append}
 use Rattle.dz_tree.specs.declared.Rule.{Rule}
 use Rattle.dz_tree.specs.declared.Rule.TheVariants as rules
 use Rattle.dz_tree.specs.Fault.{Fault}
 use Rattle.dz_tree.specs.Moves.{Action, Done, perform}
-use Rattle.dz_tree.specs.Lines.{act, spent, Entry, entries_of}
+use Rattle.dz_tree.specs.Certified.{IsCertified}
+use Rattle.dz_tree.specs.Forms.{FormTree}
+use Rattle.dz_tree.specs.Lines.{Line, act, spent, Entry, entries_of, lines_of}
+use Rattle.dz_tree.proofs.Certifying.{certified_is}
+use Rattle.dz_tree.proofs.TreeEntries.{lines_of_entries}
 use Rattle.dz_tree.specs.Reasons.{costs_more, reason_holds}
 use Rattle.dz_tree.specs.Walk.{Tree, End, Below, ended, told_at_line, entered, walk, ends_of}
 use Rattle.dz_engine.specs.Order.{plain, open_line, next_entry}
@@ -119,13 +123,18 @@ module _ (g : Setting) (budget w : ℕ) (s : State) where
       by_answer (Err r) f = cc
 
 -- ---- the laws
-certified_tree : (g : Setting) (system : System) (tree : Tree) → IsWorked g system tree → IsOk (ends_of g system tree)
+-- a worked tree is certified
+certified_tree : (g : Setting) (system : System) (tree : Tree) → IsWorked g system tree → IsCertified g system tree
 unfolding ends_of
-certified_tree g system tree h = worked_is_certified g tree.budget 0 1 (root_of g.symbols system ∷ []) (entries_of tree.lines) h
+certified_tree g system tree h = (certified_is g system tree h.formed).0 (worked_is_certified g tree.budget 0 1 (root_of g.symbols system ∷ []) (entries_of tree.lines) h.named)
+
+-- equal entries are those of equal lines, where these form one tree
+same_lines : (lines more : List Line) → FormTree lines → FormTree more → entries_of lines ≡ entries_of more → lines ≡ more
+same_lines lines more h k e = sym (lines_of_entries lines h) ∙ ap lines_of e ∙ lines_of_entries more k
 
 -- the laws of worked trees
 pub worked_laws : (g : Setting) → WorkedLaws g
 worked_laws g = record {
-  once = λ system budget lines more h k. worked_once g budget 0 (root_of g.symbols system ∷ []) (entries_of lines) (entries_of more) h k;
+  once = λ system budget lines more h k. same_lines lines more h.formed.lines k.formed.lines (worked_once g budget 0 (root_of g.symbols system ∷ []) (entries_of lines) (entries_of more) h.named k.named);
   certified = certified_tree g;
 }

@@ -10,7 +10,7 @@ use Rattle.dz_rank.specs.declared.symbols.Symbol.TheVariants.{Independent, Deriv
 use Rattle.dz_rank.specs.Rankings.{BlockValue}
 use Rattle.dz_diff.specs.Operations.{Setting, setting_of}
 use Rattle.dz_diff.specs.State.{State}
-use Rattle.dz_diff.specs.Root.{System, root_of}
+use Rattle.dz_tree.specs.Root.{System, root_of}
 use Rattle.dz_diff.specs.Tests.{Polynomials}
 use Rattle.dz_step.specs.declared.Step.{Step}
 use Rattle.dz_step.specs.declared.Which.TheVariants.{Initial, Separant}

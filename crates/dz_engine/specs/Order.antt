@@ -9,7 +9,7 @@ use Rattle.dz_rank.specs.declared.symbols.Symbol.{Symbol}
 use Rattle.dz_diff.specs.Tests.{is_zero, is_member, same}
 use Rattle.dz_diff.specs.Operations.{Setting}
 use Rattle.dz_diff.specs.State.{State, at_place}
-use Rattle.dz_diff.specs.Root.{is_closed}
+use Rattle.dz_tree.specs.Root.{is_closed}
 use Rattle.dz_step.specs.declared.Which.{Which}
 use Rattle.dz_step.specs.declared.Which.TheVariants.{Initial, Separant}
 use Rattle.dz_step.specs.declared.Role.TheVariants.{Free, Equation, Inequation}

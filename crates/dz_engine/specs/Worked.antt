@@ -2,8 +2,9 @@
 use Rattle.std.specs.Prelude.{◌≡◌, ⊤, ℕ, zero, suc, ◌+◌, List, [], ◌∷◌, ◌++◌, Ok, Err, MatchResult}
 use Rattle.dz_diff.specs.Operations.{Setting}
 use Rattle.dz_diff.specs.State.{State}
-use Rattle.dz_diff.specs.Root.{System, root_of}
+use Rattle.dz_tree.specs.Root.{System, root_of}
 use Rattle.dz_tree.specs.Lines.{Line, Entry, entries_of, lines_of}
+use Rattle.dz_tree.specs.Forms.{IsTree}
 use Rattle.dz_tree.specs.Walk.{Tree, entered}
 use Rattle.dz_engine.specs.Order.{next_entry}
 
@@ -15,9 +16,10 @@ IsWorkedFrom g budget w (s ∷ pending) [] = ⊥
 IsWorkedFrom g budget w (s ∷ pending) (e ∷ es) =
     (e ≡ next_entry g budget w s) × MatchResult (entered g budget w s e.line e.evidence) (λ b. IsWorkedFrom g budget (w + b.weight) (b.states ++ pending) es) (λ r. ⊥)
 
--- the tree is worked for a system and its budget
-abbrev pub IsWorked : Setting → System → Tree → Type 0
-IsWorked g system tree = IsWorkedFrom g tree.budget 0 (root_of g.symbols system ∷ []) (entries_of tree.lines)
+-- a tree is worked for a system and its budget: its lines form one tree, and each entry is the one that is named
+pub record IsWorked (g : Setting) (system : System) (tree : Tree) : Type 0 where
+  pub formed : IsTree tree
+  pub named : IsWorkedFrom g tree.budget 0 (root_of g.symbols system ∷ []) (entries_of tree.lines)
 
 -- the worked entries, computed in at most so many rounds
 abbrev pub worked_from : Setting → ℕ → ℕ → ℕ → List State → List Entry

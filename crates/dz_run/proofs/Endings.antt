@@ -2,7 +2,7 @@
 use Rattle.std.proofs.Common.{◌≡◌, ◌==◌, ◌∙◌, sym, ap, subst, refl, ℕ, zero, suc, false, List, [], length, Option, Some, None, Result, Ok, Err, append-nil, inr, arith}
 use Rattle.std.specs.Prelude.{⊤}
 use Rattle.std.specs.Io.KnownBytes.{Appends}
-use Rattle.dz_diff.specs.Root.{System}
+use Rattle.dz_tree.specs.Root.{System}
 use Rattle.dz_syntax.specs.declared.endings.Form.TheVariants.{Plain}
 use Rattle.dz_syntax.specs.declared.fault.SyntaxFault.{SyntaxFault}
 use Rattle.dz_syntax.specs.Systems.{Tree, system_of}

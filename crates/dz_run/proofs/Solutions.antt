@@ -11,7 +11,7 @@ use Rattle.dz_domain.specs.Point.{Coordinates, IsPoint}
 use Rattle.dz_form.specs.Values.{◌>>=◌, item_answer}
 use Rattle.dz_diff.specs.Lists.{AllOf}
 use Rattle.dz_diff.specs.Over.{AreOver, IsOver}
-use Rattle.dz_diff.specs.Root.{System, root_of}
+use Rattle.dz_tree.specs.Root.{System, root_of}
 use Rattle.dz_diff.specs.Tests.{Polynomials}
 use Rattle.dz_tree.specs.Systems.{system_limit}
 use Rattle.dz_terms.specs.Ranked.{symbols_under}

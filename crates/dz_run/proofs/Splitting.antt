@@ -23,11 +23,11 @@ use Rattle.dz_rank.specs.Symbols.{BelongsTo}
 use Rattle.dz_rank.specs.declared.symbols.Symbol.{Symbol}
 use Rattle.dz_diff.specs.Lists.{AllOf}
 use Rattle.dz_diff.specs.Over.{IsOver}
-use Rattle.dz_diff.specs.Root.{System, has_unit, has_zero, is_closed, kept_norms, root_of}
+use Rattle.dz_tree.specs.Root.{System, is_closed, kept_norms, root_of}
+use Rattle.dz_diff.specs.Tests.{Polynomials, has_unit, has_zero, is_unit, is_zero}
 use Rattle.dz_diff.specs.State.{State}
-use Rattle.dz_diff.specs.Tests.{Polynomials, is_unit, is_zero}
 use Rattle.dz_diff.proofs.Answers.{both, either}
-use Rattle.dz_diff.proofs.KeptNorms.{kept_all, kept_back}
+use Rattle.dz_tree.proofs.KeptNorms.{kept_all, kept_back}
 use Rattle.dz_run.specs.Root.{IsNonsingular, Root, RootNonsingular, Solves, SolvesRoot, chain, closed, is_linear, is_linear_in, resting, tree_of_root}
 
 -- ---- tests

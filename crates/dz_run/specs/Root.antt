@@ -8,7 +8,7 @@ use Rattle.dz_algebra.specs.Symbols.{Symbols}
 use Rattle.dz_domain.specs.Point.{Coordinates, value_at}
 use Rattle.dz_rank.specs.declared.symbols.Symbol.{Symbol}
 use Rattle.dz_poly.specs.Books.{BookValue}
-use Rattle.dz_diff.specs.Root.{System, is_closed}
+use Rattle.dz_tree.specs.Root.{System, is_closed}
 use Rattle.dz_diff.specs.State.{State}
 use Rattle.dz_diff.specs.States.{StandsIn, polynomials}
 use Rattle.dz_diff.specs.Tests.{Polynomials, is_zero}

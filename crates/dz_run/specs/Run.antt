@@ -8,7 +8,7 @@ use Rattle.dz_outside.specs.Writing.{AppendsPart}
 use Rattle.dz_algebra.specs.Domain.{Operations}
 use Rattle.dz_domain.specs.Point.{Coordinates, FitsSignature}
 use Rattle.dz_terms.specs.Ranked.{symbols_under}
-use Rattle.dz_diff.specs.Root.{System}
+use Rattle.dz_tree.specs.Root.{System}
 use Rattle.dz_syntax.specs.declared.endings.Form.TheVariants.{Plain}
 use Rattle.dz_syntax.specs.SystemGrammar.{IsSystem}
 use Rattle.dz_syntax.specs.Systems.{Tree}

@@ -13,7 +13,7 @@ use Rattle.dz_terms.specs.Ranked.{symbols_under}
 use Rattle.dz_syntax.specs.declared.expression.Op.{Op}
 use Rattle.dz_syntax.specs.Systems.{Tree}
 use Rattle.dz_poly.specs.Books.{BookValue, Means}
-use Rattle.dz_diff.specs.Root.{System}
+use Rattle.dz_tree.specs.Root.{System}
 use Rattle.dz_diff.specs.States.{MeanAll}
 use Rattle.dz_diff.specs.Tests.{Polynomials}
 use Rattle.dz_tree.specs.Systems.{IsSystemIn, SystemValue, system_in, system_limit}

@@ -3,13 +3,13 @@ ghost use Rattle.std.specs.Prelude.{◌≡◌, IfOk, OnOk, Some};
 ghost use Rattle.dz_algebra.specs.Parts.{is_ground};
 ghost use Rattle.dz_poly.specs.Books.{IsKept, Lives, polynomial};
 ghost use Rattle.dz_terms.specs.Ranked.{symbols_under};
-ghost use Rattle.dz_diff.specs.Root.{has_unit, has_zero};
-ghost use Rattle.dz_diff.specs.States.{LiveAll, StandsIn, polynomials, state_in};
+ghost use Rattle.dz_diff.specs.States.{StandsIn, state_in};
 ghost use Rattle.dz_run.specs.Root.{TreeLives, is_linear, is_linear_in, is_one, tree_in, tree_of_root};
 
-use dz_diff::{State, is_unit, leader};
+use dz_diff::{State, leader};
 use dz_poly::{Book, Poly, coefficient_at, coefficient_of, degree_in, symbol_count, term_count};
 use dz_rank::Symbol;
+use dz_tree::is_closed;
 use std::alloc::AllocError;
 
 /// A tree of one line.
@@ -37,32 +37,6 @@ fn is_one(book: &Book, p: Poly) -> bool
     ensures { result ≡ is_one (polynomial book.now p) }
 {
     term_count(book, p) == 1 && symbol_count(book, p) == 0 && coefficient_at(book, p, 0) == 1
-}
-
-/// Whether some polynomial is ground and not zero.
-fn has_unit(book: &Book, polys: &[Poly]) -> bool
-    requires { LiveAll book.now polys.now }
-    ensures { result ≡ has_unit (symbols_under book.now.ranking) (polynomials book.now polys.now) }
-{
-    'polys: for p in polys {
-        if is_unit(book.entry(*p)) {
-            return true;
-        }
-    }
-    false
-}
-
-/// Whether some polynomial is zero.
-fn has_zero(book: &Book, polys: &[Poly]) -> bool
-    requires { LiveAll book.now polys.now }
-    ensures { result ≡ has_zero (polynomials book.now polys.now) }
-{
-    'polys: for p in polys {
-        if term_count(book, *p) == 0 {
-            return true;
-        }
-    }
-    false
 }
 
 /// Whether the polynomial is linear in its leader, with a ground initial, and its leader does not
@@ -111,7 +85,7 @@ pub(crate) fn tree_of_root(book: &mut Book, root: State) -> Result<Option<Tree>,
         ≡ tree_of_root (symbols_under book.old.ranking) (state_in book.old root)) }
     ensures kept { OnOk result (IsKept book.old book.new) }
 {
-    if has_unit(book, root.equations()) || has_zero(book, root.inequations()) {
+    if is_closed(book, &root) {
         return Ok(Some(Tree::Closed));
     }
     if !root.inequations().is_empty() {

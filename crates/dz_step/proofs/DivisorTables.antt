@@ -96,12 +96,12 @@ module _ (r : RankingValue) (s : State) (role : Role) (ds : List (Option Divisor
 
 -- ---- quotients
 -- the operator that is found is the quotient
-quotient_found : (v l : Symbol) (t : Operator) → length t.counts ≡ 4 → HasFourExponents l → IsDerivativeBy t l v → quotient v l ≡ Some t
+pub quotient_found : (v l : Symbol) (t : Operator) → length t.counts ≡ 4 → HasFourExponents l → IsDerivativeBy t l v → quotient v l ≡ Some t
 quotient_found v (Independent j) t k g h = absurd (cc)
 quotient_found v (Derivative u b) t k g h = ap (λ x. quotient x (Derivative u b)) h.1 ∙ quotient_derivative 4 t (Derivative u b) h.0 k g
 
 -- where none is found there is none
-quotient_missing : (v l : Symbol) → HasFourExponents v → HasFourExponents l → ((t : Operator) → IsDerivativeBy t l v → ⊥) → quotient v l ≡ None
+pub quotient_missing : (v l : Symbol) → HasFourExponents v → HasFourExponents l → ((t : Operator) → IsDerivativeBy t l v → ⊥) → quotient v l ≡ None
 quotient_missing (Independent i) l k g h = refl
 quotient_missing (Derivative u a) (Independent j) k g h = refl
 quotient_missing (Derivative u a) (Derivative w b) k g h = by_quotient (quotient (Derivative u a) (Derivative w b)) refl

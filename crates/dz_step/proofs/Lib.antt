@@ -17,3 +17,4 @@ pub mod DivisorTables
 pub mod Searches
 pub mod Advances
 pub mod PowerQuotients
+pub mod MultipleTables

@@ -25,7 +25,7 @@ use Rattle.dz_terms.specs.Terms.{times_power}
 use Rattle.dz_diff.proofs.Answers.{bind_ok, ok_same}
 use Rattle.dz_diff.proofs.MarkedSums.{EachMonomial, each-append, each_collect, exponent_below, exponent_put, marked, total_coefficient, total_same}
 use Rattle.dz_diff.proofs.Degrees.{AtMost, only, none_only, fewer, kept_marked, top_of_product, IsWithout, marked_power, total_without, total_marked_none, exponent_without, exponent_fewer}
-use Rattle.dz_step.specs.Step.{step_by}
+use Rattle.dz_step.specs.Step.{Reduction, reduction_by, step_by}
 
 total_divided : {M : Type 0} (f : M → ℤ) (k : ℤ) (n : ℕ) → unsigned_abs k ≡ n → (p : List (M × ℤ)) → Divides n p → total f p ≡ k *ℤ total f (divided k p)
 unfolding total
@@ -190,16 +190,58 @@ module _ (g : Symbols Symbol) (order : IsOrder g.cmp) where
       let k : ℕ = gcd (content m) (content c) in
       let mk : Contributions Symbol = divided (pos k) m in
       let vck : Contributions Symbol = times_power g.cmp v (d - e) (divided (pos k) c) in
-      let s1 = bind_ok (product_answer g mk f) _ r s in
-      let s2 = bind_ok (product_answer g vck p) _ r s1.2 in
-      let s3 = bind_ok (difference_answer g s1.0 s2.0) _ r s2.2 in
+      let s0 = bind_ok (reduction_by g f p m v d e) _ r s in
+      let s1 = bind_ok (product_answer g mk f) _ s0.0 s0.1 in
+      let s2 = bind_ok (product_answer g vck p) _ s0.0 s1.2 in
+      let s3 = bind_ok (difference_answer g s1.0 s2.0) _ s0.0 s2.2 in
+      let result_is : norm s3.0 ≡ r = ap (λ (z : Reduction). norm z.rest) (ok_same (record { factor = mk; shift = vck; rest = s3.0 }) s0.0 s3.2) ∙ ok_same (norm s0.0.rest) r s0.2 in
       let q : Monomial Symbol → Type 0 = λ m. exponent g.cmp u m ≤ a in
       let a-c : AtMost g.cmp u a c = each_coefficient q q v d (λ m h. let x : exponent g.cmp u (without g.cmp v m) ≤ exponent g.cmp u m = exponent_fewer order v u m in omega arith) f a-f in
       let a-vck : AtMost g.cmp u a vck = each_times q q v (d - e) (λ m h. h) (λ i m l h. subst (λ x. x ≤ a) (sym (exponent_below order u v (suc i) m low)) h) (divided (pos k) c) (each_divided q (pos k) c a-c) in
       let a-left : AtMost g.cmp u a s1.0 = subst (AtMost g.cmp u a) (operation_is g (pairs g.cmp mk f) s1.0 s1.1) (most_made u a (pairs g.cmp mk f) (most_weaken u (0 + a) a (pairs g.cmp mk f) (omega arith) (most_pairs u 0 a mk f (each_divided (λ m. exponent g.cmp u m ≤ 0) (pos k) m a-m) a-f))) in
       let a-right : AtMost g.cmp u a s2.0 = subst (AtMost g.cmp u a) (operation_is g (pairs g.cmp vck p) s2.0 s2.1) (most_made u a (pairs g.cmp vck p) (most_weaken u (a + 0) a (pairs g.cmp vck p) (omega arith) (most_pairs u a 0 vck p a-vck a-p))) in
       let a-rest : AtMost g.cmp u a s3.0 = subst (AtMost g.cmp u a) (operation_is g (s1.0 ++ negated s2.0) s3.0 s3.1) (most_made u a (s1.0 ++ negated s2.0) (each-append g.cmp q s1.0 (negated s2.0) a-left (each_negated q s2.0 a-right))) in
-      subst (AtMost g.cmp u a) (ok_same (norm s3.0) r s3.2) (each_divided q (signed_content s3.0) s3.0 a-rest)
+      subst (AtMost g.cmp u a) result_is (each_divided q (signed_content s3.0) s3.0 a-rest)
+
+  -- where the parts with v^(d + 1) of two products are the same, their difference has a lower degree in v
+  difference_lowered : (v : Symbol) (d : ℕ) (ms ns : Contributions Symbol) (left right rest : Polynomial Symbol) → AreMonomials g.cmp ms → AreMonomials g.cmp ns → AtMost g.cmp v (suc d) ms → AtMost g.cmp v (suc d) ns
+      → ((h : Monomial Symbol → ℤ) → total (marked g.cmp v (suc d) h) ms ≡ total (marked g.cmp v (suc d) h) ns) → made ms ≡ left → made ns ≡ right → made (left ++ negated right) ≡ rest → AtMost g.cmp v d rest
+  difference_lowered v d ms ns left right rest m-ms m-ns a-ms a-ns same left-is right-is rest-is =
+      let q : Monomial Symbol → Type 0 = λ m. exponent g.cmp v m ≤ suc d in
+      let m-left : AreMonomials g.cmp left = subst (AreMonomials g.cmp) left-is (are_monomials order (made ms) (collect_is order ms m-ms)) in
+      let m-right : AreMonomials g.cmp right = subst (AreMonomials g.cmp) right-is (are_monomials order (made ns) (collect_is order ns m-ns)) in
+      let i-rest : IsPolynomial g.cmp rest = subst (IsPolynomial g.cmp) rest-is (collect_is order (left ++ negated right) (monomials-append order left (negated right) m-left (monomials_each (negated right) (each_negated (IsMonomial g.cmp) right (each_monomial right m-right))))) in
+      let a-left : AtMost g.cmp v (suc d) left = subst (AtMost g.cmp v (suc d)) left-is (most_made v (suc d) ms a-ms) in
+      let a-right : AtMost g.cmp v (suc d) right = subst (AtMost g.cmp v (suc d)) right-is (most_made v (suc d) ns a-ns) in
+      let a-rest : AtMost g.cmp v (suc d) rest = subst (AtMost g.cmp v (suc d)) rest-is (most_made v (suc d) (left ++ negated right) (each-append g.cmp q left (negated right) a-left (each_negated q right a-right))) in
+      let zero : (h : Monomial Symbol → ℤ) → total (marked g.cmp v (suc d) h) rest ≡ pos 0 = λ h.
+      ap (total (marked g.cmp v (suc d) h)) (sym rest-is) ∙ total_collect order (marked g.cmp v (suc d) h) (left ++ negated right) ∙ total-append (marked g.cmp v (suc d) h) left (negated right)
+      ∙ ap (λ x. x +ℤ total (marked g.cmp v (suc d) h) (negated right))
+      (ap (total (marked g.cmp v (suc d) h)) (sym left-is) ∙ total_collect order (marked g.cmp v (suc d) h) ms ∙ same h ∙ sym (ap (total (marked g.cmp v (suc d) h)) (sym right-is) ∙ total_collect order (marked g.cmp v (suc d) h) ns))
+      ∙ total_negated (marked g.cmp v (suc d) h) right in
+      let none : only g.cmp v (suc d) rest ≡ [] = none_only order v (suc d) rest i-rest (λ h. kept_marked order v d h rest (are_monomials order rest i-rest) ∙ zero (λ n. h (with_power g.cmp v (suc d) n))) in
+      fewer order v d rest a-rest none
+
+  -- where s and t are the coefficients of v in a and b, of degree at most one in v, v does not occur in t * a - s * b
+  pub cross_lowered : (v : Symbol) (a b s t left right rest : Polynomial Symbol) → IsPolynomial g.cmp a → IsPolynomial g.cmp b → EachMonomial (IsWithout order v) s → EachMonomial (IsWithout order v) t → AtMost g.cmp v 1 a → AtMost g.cmp v 1 b
+      → made (coefficient_of g.cmp v 1 a) ≡ s → made (coefficient_of g.cmp v 1 b) ≡ t → product_answer g t a ≡ Ok left → product_answer g s b ≡ Ok right → difference_answer g left right ≡ Ok rest → AtMost g.cmp v 0 rest
+  cross_lowered v a b s t left right rest i-a i-b w-s w-t a-a a-b of-a of-b e-left e-right e-rest =
+      let m-a : AreMonomials g.cmp a = are_monomials order a i-a in
+      let m-b : AreMonomials g.cmp b = are_monomials order b i-b in
+      let m-s : AreMonomials g.cmp s = are_without v s w-s in
+      let m-t : AreMonomials g.cmp t = are_without v t w-t in
+      difference_lowered v 0 (pairs g.cmp t a) (pairs g.cmp s b) left right rest (monomials_pairs order t a m-t m-a) (monomials_pairs order s b m-s m-b)
+      (most_pairs v 0 1 t a (none_without v t w-t) a-a) (most_pairs v 0 1 s b (none_without v s w-s) a-b)
+      (λ h. top h t a s m-t m-a w-t a-a of-a ∙ cross_commutes h t s m-t m-s ∙ sym (top h s b t m-s m-b w-s a-b of-b))
+      (operation_is g (pairs g.cmp t a) left e-left) (operation_is g (pairs g.cmp s b) right e-right) (operation_is g (left ++ negated right) rest e-rest)
+    where
+      top : (h : Monomial Symbol → ℤ) (x p y : Polynomial Symbol) → AreMonomials g.cmp x → AreMonomials g.cmp p → EachMonomial (IsWithout order v) x → AtMost g.cmp v 1 p → made (coefficient_of g.cmp v 1 p) ≡ y
+          → total (marked g.cmp v 1 h) (pairs g.cmp x p) ≡ cross h x y
+      top h x p y m-x m-p w-x a-p of-p =
+          top_of_product order v 0 1 h x p m-x m-p (none_without v x w-x) a-p
+          ∙ total_without order v (λ x. total (λ y. h (monomial_product g.cmp x y)) (coefficient_of g.cmp v 1 p)) x w-x
+          ∙ total_same g.cmp (λ x. total (λ y. h (monomial_product g.cmp x y)) (coefficient_of g.cmp v 1 p)) (λ x. total (λ z. h (monomial_product g.cmp x z)) y)
+          (λ x. sym (total_collect order (λ y. h (monomial_product g.cmp x y)) (coefficient_of g.cmp v 1 p)) ∙ ap (total (λ y. h (monomial_product g.cmp x y))) of-p) x
 
   -- a step at v lowers the degree there
   pub degree_lowered : (v : Symbol) (f p m r : Polynomial Symbol) (d e : ℕ) → IsPolynomial g.cmp f → IsPolynomial g.cmp p → EachMonomial (IsWithout order v) m → AtMost g.cmp v (suc d) f → AtMost g.cmp v e p → e ≤ suc d
@@ -212,13 +254,11 @@ module _ (g : Symbols Symbol) (order : IsOrder g.cmp) where
       let mk : Contributions Symbol = divided (pos k) m in
       let ck : Contributions Symbol = divided (pos k) c in
       let vck : Contributions Symbol = times_power g.cmp v (suc d - e) ck in
-      let s1 = bind_ok (product_answer g mk f) _ r s in
-      let s2 = bind_ok (product_answer g vck p) _ r s1.2 in
-      let s3 = bind_ok (difference_answer g s1.0 s2.0) _ r s2.2 in
-      let left-is = operation_is g (pairs g.cmp mk f) s1.0 s1.1 in
-      let right-is = operation_is g (pairs g.cmp vck p) s2.0 s2.1 in
-      let rest-is = operation_is g (s1.0 ++ negated s2.0) s3.0 s3.1 in
-      let q : Monomial Symbol → Type 0 = λ m. exponent g.cmp v m ≤ suc d in
+      let s0 = bind_ok (reduction_by g f p m v (suc d) e) _ r s in
+      let s1 = bind_ok (product_answer g mk f) _ s0.0 s0.1 in
+      let s2 = bind_ok (product_answer g vck p) _ s0.0 s1.2 in
+      let s3 = bind_ok (difference_answer g s1.0 s2.0) _ s0.0 s2.2 in
+      let result_is : norm s3.0 ≡ r = ap (λ (z : Reduction). norm z.rest) (ok_same (record { factor = mk; shift = vck; rest = s3.0 }) s0.0 s3.2) ∙ ok_same (norm s0.0.rest) r s0.2 in
       let m-f : AreMonomials g.cmp f = are_monomials order f i-f in
       let m-p : AreMonomials g.cmp p = are_monomials order p i-p in
       let w-c : EachMonomial (IsWithout order v) c = each_coefficient (IsMonomial g.cmp) (IsWithout order v) v (suc d) (λ m h. (without_is order v m h, exponent_without order v m)) f (each_monomial f m-f) in
@@ -226,18 +266,9 @@ module _ (g : Symbols Symbol) (order : IsOrder g.cmp) where
       let w-mk : EachMonomial (IsWithout order v) mk = each_divided (IsWithout order v) (pos k) m w-m in
       let m-vck : AreMonomials g.cmp vck = monomials_each vck (each_times (IsWithout order v) (IsMonomial g.cmp) v (suc d - e) (λ m h. h.0) (λ i m l h. with_power_is order v (suc i) m (omega arith) h.0) ck w-ck) in
       let a-vck : AtMost g.cmp v (suc d - e) vck = power_most v (suc d - e) ck w-ck in
-      let m-left : AreMonomials g.cmp s1.0 = subst (AreMonomials g.cmp) left-is (are_monomials order (made (pairs g.cmp mk f)) (collect_is order (pairs g.cmp mk f) (monomials_pairs order mk f (are_without v mk w-mk) m-f))) in
-      let m-right : AreMonomials g.cmp s2.0 = subst (AreMonomials g.cmp) right-is (are_monomials order (made (pairs g.cmp vck p)) (collect_is order (pairs g.cmp vck p) (monomials_pairs order vck p m-vck m-p))) in
-      let i-rest : IsPolynomial g.cmp s3.0 = subst (IsPolynomial g.cmp) rest-is (collect_is order (s1.0 ++ negated s2.0) (monomials-append order s1.0 (negated s2.0) m-left (monomials_each (negated s2.0) (each_negated (IsMonomial g.cmp) s2.0 (each_monomial s2.0 m-right))))) in
-      let a-left : AtMost g.cmp v (suc d) s1.0 = subst (AtMost g.cmp v (suc d)) left-is (most_made v (suc d) (pairs g.cmp mk f) (most_weaken v (0 + suc d) (suc d) (pairs g.cmp mk f) (omega arith) (most_pairs v 0 (suc d) mk f (none_without v mk w-mk) a-f))) in
-      let a-right : AtMost g.cmp v (suc d) s2.0 = subst (AtMost g.cmp v (suc d)) right-is (most_made v (suc d) (pairs g.cmp vck p) (most_weaken v ((suc d - e) + e) (suc d) (pairs g.cmp vck p) (omega arith) (most_pairs v (suc d - e) e vck p a-vck a-p))) in
-      let a-rest : AtMost g.cmp v (suc d) s3.0 = subst (AtMost g.cmp v (suc d)) rest-is (most_made v (suc d) (s1.0 ++ negated s2.0) (each-append g.cmp q s1.0 (negated s2.0) a-left (each_negated q s2.0 a-right))) in
-      let zero : (h : Monomial Symbol → ℤ) → total (marked g.cmp v (suc d) h) s3.0 ≡ pos 0 = λ h.
-      ap (total (marked g.cmp v (suc d) h)) (sym rest-is) ∙ total_collect order (marked g.cmp v (suc d) h) (s1.0 ++ negated s2.0) ∙ total-append (marked g.cmp v (suc d) h) s1.0 (negated s2.0)
-      ∙ ap (λ x. x +ℤ total (marked g.cmp v (suc d) h) (negated s2.0))
-      (ap (total (marked g.cmp v (suc d) h)) (sym left-is) ∙ total_collect order (marked g.cmp v (suc d) h) (pairs g.cmp mk f)
-      ∙ parts_cancel v h f p m (suc d) e k m-f m-p a-f a-p le w-m w-c m-vck a-vck made-is (divides_more k (content m) m both.0 (content_divides m)) (divides_more k (content c) c both.1 (content_divides c))
-      ∙ sym (ap (total (marked g.cmp v (suc d) h)) (sym right-is) ∙ total_collect order (marked g.cmp v (suc d) h) (pairs g.cmp vck p)))
-      ∙ total_negated (marked g.cmp v (suc d) h) s2.0 in
-      let none : only g.cmp v (suc d) s3.0 ≡ [] = none_only order v (suc d) s3.0 i-rest (λ h. kept_marked order v d h s3.0 (are_monomials order s3.0 i-rest) ∙ zero (λ n. h (with_power g.cmp v (suc d) n))) in
-      subst (AtMost g.cmp v d) (ok_same (norm s3.0) r s3.2) (each_divided (λ m. exponent g.cmp v m ≤ d) (signed_content s3.0) s3.0 (fewer order v d s3.0 a-rest none))
+      let lowered : AtMost g.cmp v d s3.0 = difference_lowered v d (pairs g.cmp mk f) (pairs g.cmp vck p) s1.0 s2.0 s3.0 (monomials_pairs order mk f (are_without v mk w-mk) m-f) (monomials_pairs order vck p m-vck m-p)
+      (most_weaken v (0 + suc d) (suc d) (pairs g.cmp mk f) (omega arith) (most_pairs v 0 (suc d) mk f (none_without v mk w-mk) a-f))
+      (most_weaken v ((suc d - e) + e) (suc d) (pairs g.cmp vck p) (omega arith) (most_pairs v (suc d - e) e vck p a-vck a-p))
+      (λ h. parts_cancel v h f p m (suc d) e k m-f m-p a-f a-p le w-m w-c m-vck a-vck made-is (divides_more k (content m) m both.0 (content_divides m)) (divides_more k (content c) c both.1 (content_divides c)))
+      (operation_is g (pairs g.cmp mk f) s1.0 s1.1) (operation_is g (pairs g.cmp vck p) s2.0 s2.1) (operation_is g (s1.0 ++ negated s2.0) s3.0 s3.1) in
+      subst (AtMost g.cmp v d) result_is (each_divided (λ m. exponent g.cmp v m ≤ d) (signed_content s3.0) s3.0 lowered)

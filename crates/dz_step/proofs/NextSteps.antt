@@ -26,7 +26,7 @@ use Rattle.dz_diff.proofs.LeaderDerivations.{IsRegular}
 use Rattle.dz_diff.proofs.Places.{taken}
 use Rattle.dz_step.specs.declared.Role.{Role}
 use Rattle.dz_step.specs.declared.Step.{Step}
-use Rattle.dz_step.specs.Step.{Stop, refused, no_step, multiplier_answer, multiplier_of, is_divisor, is_permitted, step_degree, step_by, step_answer, step_in}
+use Rattle.dz_step.specs.Step.{Stop, refused, no_step, multiplier_answer, multiplier_of, is_divisor, is_permitted, step_degree, reduction_by, reduction_answer, step_answer, step_in}
 use Rattle.dz_step.specs.FullRun.{with_derivatives, derivatives_of, or_else, step_with, step_at, first_step, next_step}
 use Rattle.dz_diff.proofs.LeaderBounds.{leader_regular}
 
@@ -112,10 +112,12 @@ module _ (R : RankingValue) where
   -- a step by an equation that has a leader, of a degree that the polynomial has
   limited_step : (f q : Polynomial Symbol) (t : Operator) (l : Symbol) → leader (symbols_under R) q ≡ Some l → nat_le (step_degree (symbols_under R) t l q) (degree (ranking_cmp R) (derivative_by t l) f) ≡ true → Limited (step_answer (setting_of R) f q t)
   limited_step f q t l e h =
-      limited_given (leader (symbols_under R) q) _ _ l e (limited_needs (nat_le (step_degree (symbols_under R) t l q) (degree (ranking_cmp R) (derivative_by t l) f)) _ _ h
+      limited_bind (reduction_answer (setting_of R) f q t) _
+      (limited_given (leader (symbols_under R) q) _ _ l e (limited_needs (nat_le (step_degree (symbols_under R) t l q) (degree (ranking_cmp R) (derivative_by t l) f)) _ _ h
       (limited_bind (told_as refused (operator_answer (setting_of R) t q)) _ (limited_told (operator_answer (setting_of R) t q)) (λ p.
       limited_bind (told_as refused (multiplier_answer (symbols_under R) (multiplier_of t) l q)) _ (limited_told (multiplier_answer (symbols_under R) (multiplier_of t) l q)) (λ m.
-      limited_told (step_by (symbols_under R) f p m (derivative_by t l) (degree (ranking_cmp R) (derivative_by t l) f) (step_degree (symbols_under R) t l q))))))
+      limited_told (reduction_by (symbols_under R) f p m (derivative_by t l) (degree (ranking_cmp R) (derivative_by t l) f) (step_degree (symbols_under R) t l q)))))))
+      (λ y. tt)
 
   -- ---- what a search for a step found
   module _ (s : State) (role : Role) (f : Polynomial Symbol) where

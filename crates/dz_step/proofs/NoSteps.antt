@@ -29,13 +29,13 @@ use Rattle.dz_diff.proofs.Goodness.{Good}
 use Rattle.dz_diff.proofs.LeaderDerivations.{IsRegular}
 use Rattle.dz_step.specs.declared.Role.{Role}
 use Rattle.dz_step.specs.declared.Step.{Step}
-use Rattle.dz_step.specs.Step.{Stop, no_step, is_divisor, is_permitted, step_degree, step_in}
+use Rattle.dz_step.specs.Step.{Reduction, Stop, no_step, is_divisor, is_permitted, step_degree, normed, step_in}
 use Rattle.dz_step.specs.FullRun.{with_derivatives, derivatives_of, or_else, step_with, step_at, first_step, next_step}
 use Rattle.dz_step.proofs.TakenSteps.{leader_is_derivative}
 use Rattle.dz_diff.proofs.LeaderBounds.{leader_regular}
 
 -- a conjunction holds with both parts
-and_is : (a b : Bool) → a ≡ true → b ≡ true → (a && b) ≡ true
+pub and_is : (a b : Bool) → a ≡ true → b ≡ true → (a && b) ≡ true
 and_is true b e f = f
 and_is false b e f = e
 
@@ -165,6 +165,9 @@ given_or : {A B : Type 0} (o : Option A) (k : Stop) (f : A → Result B Stop) �
 given_or (Some x) k f h = h x refl
 given_or None k f h = refl
 
+normed_or : (x : Result Reduction Stop) (k : Stop) → x ≡ Err k → normed x ≡ Err k
+normed_or x k e = ap normed e
+
 some_same : {A : Type 0} (x y : A) (o : Option A) → o ≡ Some x → o ≡ Some y → x ≡ y
 some_same x y o e f = cc
 
@@ -180,8 +183,8 @@ module _ (R : RankingValue) (s : State) (role : Role) (f : Polynomial Symbol) wh
   pub none_is_step : (st : Step) → next_step (setting_of R) s role f ≡ None → ((j : ℕ) (q : Polynomial Symbol) → at_place j s.equations ≡ Some q → Good R q × PolynomialIn (IsRegular 4) q) → length st.operator.counts ≡ 4 → step_in (setting_of R) s role f st ≡ Err no_step
   none_is_step st e regular k =
       needs_or (is_divisor role st.place) no_step _ (λ a. given_or (at_place st.place s.equations) no_step _ (λ q b. given_or (leader (symbols_under R) q) no_step _ (λ l c.
-      needs_or (is_permitted (setting_of R) s role q l st.operator) no_step _ (λ p. given_or (leader (symbols_under R) q) no_step _ (λ l' c'.
-      needs_or (nat_le (step_degree (symbols_under R) st.operator l' q) (degree (ranking_cmp R) (derivative_by st.operator l') f)) no_step _ (λ d. absurd (no_one q l' a b c' (subst (λ l. is_permitted (setting_of R) s role q l st.operator ≡ true) (some_same l l' (leader (symbols_under R) q) c c') p) d)))))))
+      needs_or (is_permitted (setting_of R) s role q l st.operator) no_step _ (λ p. normed_or _ no_step (given_or (leader (symbols_under R) q) no_step _ (λ l' c'.
+      needs_or (nat_le (step_degree (symbols_under R) st.operator l' q) (degree (ranking_cmp R) (derivative_by st.operator l') f)) no_step _ (λ d. absurd (no_one q l' a b c' (subst (λ l. is_permitted (setting_of R) s role q l st.operator ≡ true) (some_same l l' (leader (symbols_under R) q) c c') p) d))))))))
     where
       no_one : (q : Polynomial Symbol) (l : Symbol) → is_divisor role st.place ≡ true → at_place st.place s.equations ≡ Some q → leader (symbols_under R) q ≡ Some l → is_permitted (setting_of R) s role q l st.operator ≡ true
           → nat_le (step_degree (symbols_under R) st.operator l q) (degree (ranking_cmp R) (derivative_by st.operator l) f) ≡ true → ⊥

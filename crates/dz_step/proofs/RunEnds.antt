@@ -1,5 +1,5 @@
 -- What a replay finds, from what its steps answer.
-use Rattle.std.proofs.Common.{◌≡◌, ◌<◌, ◌≤◌, ◌+◌, ◌∙◌, inl, inr, ℕ, suc, true, false, List, [], ◌∷◌, drop, length, refl, sym, ap, subst, arith, Result, Ok, Err, Option, Some, None}
+use Rattle.std.proofs.Common.{◌≡◌, ◌<◌, ◌≤◌, ◌+◌, ◌∙◌, inl, inr, ℕ, suc, true, false, List, ◌∷◌, drop, length, sym, ap, subst, arith, Result, Ok, Err, Option, Some, None}
 use Rattle.std.specs.Prelude.{slice_get}
 use Rattle.std.proofs.lemmas.List.{drop_all, drop_more}
 use Rattle.std.proofs.lemmas.Option.{get_or_from_slice_get}
@@ -91,7 +91,7 @@ numbered_fault n stop (Err no_step) (inr e) = inr (ap Some (ap (replay_fault n) 
     same e = cc
 
 -- it is that of the run
-fault_first : (fault : ReplayFault) (x : Result (Polynomial Symbol) (ℕ × Stop)) (next : Polynomial Symbol → Result Ran (ℕ × Stop)) → IsReplayFault fault x → IsReplayFault fault (end_of (x >>= next))
+fault_first : (fault : ReplayFault) (x : Result (Polynomial Symbol) (ℕ × Stop)) (next : Polynomial Symbol → Result Ran (ℕ × Stop)) → IsReplayFault fault x → IsReplayFault fault (x >>= next)
 fault_first fault x next (inl e) = inl e
 fault_first fault (Ok a) next (inr e) = absurd (nothing e)
   where
@@ -99,45 +99,39 @@ fault_first fault (Ok a) next (inr e) = absurd (nothing e)
     nothing e = cc
 fault_first fault (Err e) next (inr h) = inr h
 
+-- and that of its end alone
+pub end_fault : (fault : ReplayFault) (x : Result Ran (ℕ × Stop)) → IsReplayFault fault x → IsReplayFault fault (end_of x)
+end_fault fault x (inl e) = inl e
+end_fault fault (Ok a) (inr e) = inr e
+end_fault fault (Err k) (inr e) = inr e
+
 -- ---- the steps of a run
-module _ (g : Setting) (s : State) (role : Role) where
-  -- the end does not depend on the count
-  any_count : (n : ℕ) (p : Polynomial Symbol) (c d : ℕ) (steps : List Step) → end_of (run_from g s role n p c steps) ≡ end_of (run_from g s role n p d steps)
-  any_count n p c d [] = refl
-  any_count n p c d (st ∷ steps) = by_answer (λ r. any_count (suc n) r (c + 1 + length r) (d + 1 + length r) steps) (step_in g s role p st)
-    where
-      by_answer : ((r : Polynomial Symbol) → end_of (run_from g s role (suc n) r (c + 1 + length r) steps) ≡ end_of (run_from g s role (suc n) r (d + 1 + length r) steps)) → (x : Result (Polynomial Symbol) Stop)
-          → end_of (numbered n x >>= (λ r. run_from g s role (suc n) r (c + 1 + length r) steps)) ≡ end_of (numbered n x >>= (λ r. run_from g s role (suc n) r (d + 1 + length r) steps))
-      by_answer later (Ok r) = later r
-      by_answer later (Err e) = refl
+module _ (g : Setting) (s : State) (role : Role) (steps : List Step) (i : ℕ) (p : Polynomial Symbol) (count : ℕ) (answer : Result Ran (ℕ × Stop)) (so_far : run_from g s role (i + 1) p count (drop i steps) ≡ answer) where
+  -- behind the last step the end is there
+  pub all_taken : length steps ≤ i → answer ≡ Ok (record { end = p; count = count })
+  all_taken h = sym so_far ∙ ap (run_from g s role (i + 1) p count) (drop_all i steps h)
 
-  module _ (steps : List Step) (i : ℕ) (p : Polynomial Symbol) (answer : Result (Polynomial Symbol) (ℕ × Stop)) (so_far : end_of (run_from g s role (i + 1) p 0 (drop i steps)) ≡ answer) where
-    -- behind the last step the end is there
-    pub all_taken : length steps ≤ i → answer ≡ Ok p
-    all_taken h = sym so_far ∙ ap (λ l. end_of (run_from g s role (i + 1) p 0 l)) (drop_all i steps h)
+  module _ (st : Step) (there : slice_get steps i ≡ Some st) (inside : i < length steps) where
+    -- the step is next
+    next_is : drop i steps ≡ st ∷ drop (i + 1) steps
+    next_is = drop_more steps i st inside ∙ ap (λ t. t ∷ drop (i + 1) steps) (get_or_from_slice_get steps i st st there)
 
-    module _ (st : Step) (there : slice_get steps i ≡ Some st) (inside : i < length steps) where
-      -- the step is next
-      next_is : drop i steps ≡ st ∷ drop (i + 1) steps
-      next_is = drop_more steps i st inside ∙ ap (λ t. t ∷ drop (i + 1) steps) (get_or_from_slice_get steps i st st there)
+    -- what follows its result
+    abbrev after : Polynomial Symbol → Result Ran (ℕ × Stop)
+    after r = run_from g s role (suc (i + 1)) r (count + 1 + length r) (drop (i + 1) steps)
 
-      -- what follows its result
-      abbrev after : Polynomial Symbol → Result Ran (ℕ × Stop)
-      after r = run_from g s role (suc (i + 1)) r (0 + 1 + length r) (drop (i + 1) steps)
+    -- the answer is that of the step and what follows
+    from_here : (numbered (i + 1) (step_in g s role p st) >>= after) ≡ answer
+    from_here = sym (ap (run_from g s role (i + 1) p count) next_is) ∙ so_far
 
-      -- the answer is that of the step and what follows
-      from_here : end_of (numbered (i + 1) (step_in g s role p st) >>= after) ≡ answer
-      from_here = sym (ap (λ l. end_of (run_from g s role (i + 1) p 0 l)) next_is) ∙ so_far
+    -- the step has no result, and so the run has no end
+    pub step_refused : (fault : ReplayFault) → IsReplayFault fault (numbered (i + 1) (step_in g s role p st)) → IsReplayFault fault answer
+    step_refused fault h = subst (IsReplayFault fault) from_here (fault_first fault (numbered (i + 1) (step_in g s role p st)) after h)
 
-      -- the step has no result, and so the run has no end
-      pub step_refused : (fault : ReplayFault) → IsReplayFault fault (numbered (i + 1) (step_in g s role p st)) → IsReplayFault fault answer
-      step_refused fault h = subst (IsReplayFault fault) from_here (fault_first fault (numbered (i + 1) (step_in g s role p st)) after h)
-
-      -- the step has a result, from which the run goes on
-      pub step_taken : (x : Polynomial Symbol) → step_in g s role p st ≡ Ok x → end_of (run_from g s role (i + 1 + 1) x 0 (drop (i + 1) steps)) ≡ answer
-      step_taken x e =
-          let n : i + 1 + 1 ≡ suc (i + 1) = omega arith in
-          ap (λ n. end_of (run_from g s role n x 0 (drop (i + 1) steps))) n
-          ∙ any_count (suc (i + 1)) x 0 (0 + 1 + length x) (drop (i + 1) steps)
-          ∙ sym (ap (λ y. end_of (numbered (i + 1) y >>= after)) e)
-          ∙ from_here
+    -- the step has a result, from which the run goes on
+    pub step_taken : (x : Polynomial Symbol) → step_in g s role p st ≡ Ok x → run_from g s role (i + 1 + 1) x (count + 1 + length x) (drop (i + 1) steps) ≡ answer
+    step_taken x e =
+        let n : i + 1 + 1 ≡ suc (i + 1) = omega arith in
+        ap (λ n. run_from g s role n x (count + 1 + length x) (drop (i + 1) steps)) n
+        ∙ sym (ap (λ y. numbered (i + 1) y >>= after) e)
+        ∙ from_here

@@ -39,7 +39,7 @@ second_is (Some x) p e = cc
 second_is None p e = refl
 
 -- a list from a place on
-drop_here : {X : Type 0} (i : ℕ) (xs : List X) (d : X) → i < length xs → drop i xs ≡ slice_index_or xs i d ∷ drop (i + 1) xs
+pub drop_here : {X : Type 0} (i : ℕ) (xs : List X) (d : X) → i < length xs → drop i xs ≡ slice_index_or xs i d ∷ drop (i + 1) xs
 drop_here {X} i xs d l = rw add-one (at i xs l)
   where
     at : (i : ℕ) (xs : List X) → i < length xs → drop i xs ≡ slice_index_or xs i d ∷ drop (suc i) xs
@@ -48,7 +48,7 @@ drop_here {X} i xs d l = rw add-one (at i xs l)
     at (suc i) (x ∷ xs) l = at i xs (omega arith)
 
 -- nothing is left past the end
-drop_end : {X : Type 0} (i : ℕ) (xs : List X) → length xs ≤ i → drop i xs ≡ []
+pub drop_end : {X : Type 0} (i : ℕ) (xs : List X) → length xs ≤ i → drop i xs ≡ []
 drop_end zero [] l = refl
 drop_end zero (x ∷ xs) l = absurd (omega arith)
 drop_end (suc i) [] l = refl

@@ -27,12 +27,12 @@ use Rattle.dz_diff.specs.Operations.{iterated_answer, derivations_answer, operat
 use Rattle.dz_diff.proofs.LeaderBounds.{leader_degree}
 use Rattle.dz_step.specs.declared.Which.TheVariants.{Initial, Separant}
 use Rattle.dz_step.specs.declared.stepping.StepStop.{StepStop}
-use Rattle.dz_step.specs.Step.{Stop, refused, no_step, multiplier_answer, multiplier_of, step_degree, step_by, step_answer}
+use Rattle.dz_step.specs.Step.{Reduction, Stop, refused, no_step, multiplier_answer, multiplier_of, step_degree, reduction_by, reduction_answer}
 use Rattle.dz_step.specs.StepStops.{IsStepStop, step_stop}
 
 -- ---- stops
 -- a refusal of an operation is one of its step
-told_stop : {A : Type 0} (stop : PolyStop) (x : Result A Refusal) → IsStop stop x → IsStepStop (step_stop stop) (told_as refused x)
+pub told_stop : {A : Type 0} (stop : PolyStop) (x : Result A Refusal) → IsStop stop x → IsStepStop (step_stop stop) (told_as refused x)
 told_stop stop x (inl e) = inl (ap step_stop e)
 told_stop stop (Ok a) (inr e) = absurd (nothing e)
   where
@@ -48,7 +48,7 @@ told_stop stop (Err (large l)) (inr e) = inr (ap Some (ap step_stop (same e)))
     same e = cc
 
 -- and ends what would follow
-stop_first : {A B : Type 0} (stop : StepStop) (x : Result A Stop) (next : A → Result B Stop) → IsStepStop stop x → IsStepStop stop (x >>= next)
+pub stop_first : {A B : Type 0} (stop : StepStop) (x : Result A Stop) (next : A → Result B Stop) → IsStepStop stop x → IsStepStop stop (x >>= next)
 stop_first stop (Ok a) next (inl h) = inl h
 stop_first stop (Ok a) next (inr h) = absurd (nothing h)
   where
@@ -61,47 +61,47 @@ stop_first stop (Err no_step) next h = h
 -- ---- the steps of a computation
 module _ (r : RankingValue) (f q : Polynomial Symbol) (t : Operator) where
   -- without a leader there is no step
-  pub unled : None ≡ leader (symbols_under r) q → step_answer (setting_of r) f q t ≡ Err no_step
-  unled e = ap (λ (o : Option Symbol). given o no_step >>= (λ l. needs (nat_le (step_degree (symbols_under r) t l q) (degree (ranking_cmp r) (derivative_by t l) f)) no_step >>= (λ _. told_as refused (operator_answer (setting_of r) t q) >>= (λ p. told_as refused (multiplier_answer (symbols_under r) (multiplier_of t) l q) >>= (λ m. told_as refused (step_by (symbols_under r) f p m (derivative_by t l) (degree (ranking_cmp r) (derivative_by t l) f) (step_degree (symbols_under r) t l q))))))) (sym e)
+  pub unled : None ≡ leader (symbols_under r) q → reduction_answer (setting_of r) f q t ≡ Err no_step
+  unled e = ap (λ (o : Option Symbol). given o no_step >>= (λ l. needs (nat_le (step_degree (symbols_under r) t l q) (degree (ranking_cmp r) (derivative_by t l) f)) no_step >>= (λ _. told_as refused (operator_answer (setting_of r) t q) >>= (λ p. told_as refused (multiplier_answer (symbols_under r) (multiplier_of t) l q) >>= (λ m. told_as refused (reduction_by (symbols_under r) f p m (derivative_by t l) (degree (ranking_cmp r) (derivative_by t l) f) (step_degree (symbols_under r) t l q))))))) (sym e)
 
   module _ (l v : Symbol) (e : leader (symbols_under r) q ≡ Some l) (i : v ≡ derivative_by t l) where
     abbrev d : ℕ
     d = degree (ranking_cmp r) v f
 
-    abbrev rest : Symbol → Symbol → Result (Polynomial Symbol) Stop
-    rest l v = needs (nat_le (step_degree (symbols_under r) t l q) (degree (ranking_cmp r) v f)) no_step >>= (λ _. told_as refused (operator_answer (setting_of r) t q) >>= (λ p. told_as refused (multiplier_answer (symbols_under r) (multiplier_of t) l q) >>= (λ m. told_as refused (step_by (symbols_under r) f p m v (degree (ranking_cmp r) v f) (step_degree (symbols_under r) t l q)))))
+    abbrev rest : Symbol → Symbol → Result Reduction Stop
+    rest l v = needs (nat_le (step_degree (symbols_under r) t l q) (degree (ranking_cmp r) v f)) no_step >>= (λ _. told_as refused (operator_answer (setting_of r) t q) >>= (λ p. told_as refused (multiplier_answer (symbols_under r) (multiplier_of t) l q) >>= (λ m. told_as refused (reduction_by (symbols_under r) f p m v (degree (ranking_cmp r) v f) (step_degree (symbols_under r) t l q)))))
 
     -- with a leader the degrees are compared
-    led : step_answer (setting_of r) f q t ≡ rest l v
+    led : reduction_answer (setting_of r) f q t ≡ rest l v
     led = ap (λ (o : Option Symbol). given o no_step >>= (λ l. rest l (derivative_by t l))) e ∙ ap (rest l) (sym i)
 
     -- a degree that is too low makes no step
-    pub too_low : d < step_degree (symbols_under r) t l q → step_answer (setting_of r) f q t ≡ Err no_step
-    too_low h = led ∙ ap (λ (b : Bool). needs b no_step >>= (λ _. told_as refused (operator_answer (setting_of r) t q) >>= (λ p. told_as refused (multiplier_answer (symbols_under r) (multiplier_of t) l q) >>= (λ m. told_as refused (step_by (symbols_under r) f p m v d (step_degree (symbols_under r) t l q)))))) low
+    pub too_low : d < step_degree (symbols_under r) t l q → reduction_answer (setting_of r) f q t ≡ Err no_step
+    too_low h = led ∙ ap (λ (b : Bool). needs b no_step >>= (λ _. told_as refused (operator_answer (setting_of r) t q) >>= (λ p. told_as refused (multiplier_answer (symbols_under r) (multiplier_of t) l q) >>= (λ m. told_as refused (reduction_by (symbols_under r) f p m v d (step_degree (symbols_under r) t l q)))))) low
       where
         low : nat_le (step_degree (symbols_under r) t l q) d ≡ false
         low = grind (arith, nat_tests)
 
     -- where it is enough, the rest is that of the derivative and the multiplier
     parts : (n : ℕ) (p m : Polynomial Symbol) → step_degree (symbols_under r) t l q ≡ n → n ≤ d → operator_answer (setting_of r) t q ≡ Ok p → multiplier_answer (symbols_under r) (multiplier_of t) l q ≡ Ok m
-        → step_answer (setting_of r) f q t ≡ told_as refused (step_by (symbols_under r) f p m v d n)
+        → reduction_answer (setting_of r) f q t ≡ told_as refused (reduction_by (symbols_under r) f p m v d n)
     parts n p m s h j k =
         led
-        ∙ ap (λ (x : ℕ). needs (nat_le x d) no_step >>= (λ _. told_as refused (operator_answer (setting_of r) t q) >>= (λ p. told_as refused (multiplier_answer (symbols_under r) (multiplier_of t) l q) >>= (λ m. told_as refused (step_by (symbols_under r) f p m v d x))))) s
-        ∙ ap (λ (b : Bool). needs b no_step >>= (λ _. told_as refused (operator_answer (setting_of r) t q) >>= (λ p. told_as refused (multiplier_answer (symbols_under r) (multiplier_of t) l q) >>= (λ m. told_as refused (step_by (symbols_under r) f p m v d n))))) (le-leb n d h)
-        ∙ ap (λ (x : Result (Polynomial Symbol) Refusal). told_as refused x >>= (λ p. told_as refused (multiplier_answer (symbols_under r) (multiplier_of t) l q) >>= (λ m. told_as refused (step_by (symbols_under r) f p m v d n)))) j
-        ∙ ap (λ (x : Result (Polynomial Symbol) Refusal). told_as refused x >>= (λ m. told_as refused (step_by (symbols_under r) f p m v d n))) k
+        ∙ ap (λ (x : ℕ). needs (nat_le x d) no_step >>= (λ _. told_as refused (operator_answer (setting_of r) t q) >>= (λ p. told_as refused (multiplier_answer (symbols_under r) (multiplier_of t) l q) >>= (λ m. told_as refused (reduction_by (symbols_under r) f p m v d x))))) s
+        ∙ ap (λ (b : Bool). needs b no_step >>= (λ _. told_as refused (operator_answer (setting_of r) t q) >>= (λ p. told_as refused (multiplier_answer (symbols_under r) (multiplier_of t) l q) >>= (λ m. told_as refused (reduction_by (symbols_under r) f p m v d n))))) (le-leb n d h)
+        ∙ ap (λ (x : Result (Polynomial Symbol) Refusal). told_as refused x >>= (λ p. told_as refused (multiplier_answer (symbols_under r) (multiplier_of t) l q) >>= (λ m. told_as refused (reduction_by (symbols_under r) f p m v d n)))) j
+        ∙ ap (λ (x : Result (Polynomial Symbol) Refusal). told_as refused x >>= (λ m. told_as refused (reduction_by (symbols_under r) f p m v d n))) k
 
     -- ---- a proper operator
     module _ (proper : is_proper t ≡ true) where
       one : step_degree (symbols_under r) t l q ≡ 1
       one = ap (λ b. cond b 1 (degree (ranking_cmp r) l q)) proper
 
-      pub derivative_refused : (n : ℕ) (p m : Polynomial Symbol) (stop : PolyStop) → n ≡ d → (n ≡ 0 → ⊥) → operator_answer (setting_of r) t q ≡ Ok p → separant_answer (symbols_under r) l q ≡ Ok m → IsStop stop (step_by (symbols_under r) f p m v d 1) → IsStepStop (step_stop stop) (step_answer (setting_of r) f q t)
+      pub derivative_refused : (n : ℕ) (p m : Polynomial Symbol) (stop : PolyStop) → n ≡ d → (n ≡ 0 → ⊥) → operator_answer (setting_of r) t q ≡ Ok p → separant_answer (symbols_under r) l q ≡ Ok m → IsStop stop (reduction_by (symbols_under r) f p m v d 1) → IsStepStop (step_stop stop) (reduction_answer (setting_of r) f q t)
       derivative_refused n p m stop s z j k h =
           let enough : 1 ≤ d = omega (arith, s, z) in
           let which : multiplier_answer (symbols_under r) (multiplier_of t) l q ≡ Ok m = ap (λ b. multiplier_answer (symbols_under r) (cond b Separant Initial) l q) proper ∙ k in
-          subst (IsStepStop (step_stop stop)) (sym (parts 1 p m one enough j which)) (told_stop stop (step_by (symbols_under r) f p m v d 1) h)
+          subst (IsStepStop (step_stop stop)) (sym (parts 1 p m one enough j which)) (told_stop stop (reduction_by (symbols_under r) f p m v d 1) h)
 
     -- ---- the operator of no derivation
     module _ (improper : is_proper t ≡ false) (i-q : IsPolynomial (ranking_cmp r) q) where
@@ -141,19 +141,19 @@ module _ (r : RankingValue) (f q : Polynomial Symbol) (t : Operator) where
       at_least : (n k : ℕ) → k ≡ degree (ranking_cmp r) l q → n ≡ d → k ≤ n → degree (ranking_cmp r) l q ≤ d
       at_least n k s z h = omega (arith, s, z, h)
 
-      pub itself_ok : (n k : ℕ) (m x : Polynomial Symbol) → k ≡ degree (ranking_cmp r) l q → n ≡ d → k ≤ n → m ≡ initial (ranking_cmp r) l q → step_by (symbols_under r) f q m v d k ≡ Ok x → step_answer (setting_of r) f q t ≡ Ok x
+      pub itself_ok : (n k : ℕ) (m : Polynomial Symbol) (x : Reduction) → k ≡ degree (ranking_cmp r) l q → n ≡ d → k ≤ n → m ≡ initial (ranking_cmp r) l q → reduction_by (symbols_under r) f q m v d k ≡ Ok x → reduction_answer (setting_of r) f q t ≡ Ok x
       itself_ok n k m x s z h j a =
           parts (degree (ranking_cmp r) l q) q m whole (at_least n k s z h) itself (which m j)
-          ∙ ap (λ j. told_as refused (step_by (symbols_under r) f q m v d j)) (sym s)
+          ∙ ap (λ j. told_as refused (reduction_by (symbols_under r) f q m v d j)) (sym s)
           ∙ ap (told_as refused) a
 
-      pub itself_refused : (n k : ℕ) (m : Polynomial Symbol) (stop : PolyStop) → k ≡ degree (ranking_cmp r) l q → n ≡ d → k ≤ n → m ≡ initial (ranking_cmp r) l q → IsStop stop (step_by (symbols_under r) f q m v d k) → IsStepStop (step_stop stop) (step_answer (setting_of r) f q t)
+      pub itself_refused : (n k : ℕ) (m : Polynomial Symbol) (stop : PolyStop) → k ≡ degree (ranking_cmp r) l q → n ≡ d → k ≤ n → m ≡ initial (ranking_cmp r) l q → IsStop stop (reduction_by (symbols_under r) f q m v d k) → IsStepStop (step_stop stop) (reduction_answer (setting_of r) f q t)
       itself_refused n k m stop s z h j a =
-          subst (IsStepStop (step_stop stop)) (sym (parts (degree (ranking_cmp r) l q) q m whole (at_least n k s z h) itself (which m j) ∙ ap (λ j. told_as refused (step_by (symbols_under r) f q m v d j)) (sym s)))
-          (told_stop stop (step_by (symbols_under r) f q m v d k) a)
+          subst (IsStepStop (step_stop stop)) (sym (parts (degree (ranking_cmp r) l q) q m whole (at_least n k s z h) itself (which m j) ∙ ap (λ j. told_as refused (reduction_by (symbols_under r) f q m v d j)) (sym s)))
+          (told_stop stop (reduction_by (symbols_under r) f q m v d k) a)
 
 -- a derivative of too high an order makes no step
-pub too_high_no_step : (r : RankingValue) (f q : Polynomial Symbol) (table : Monomial Symbol) (t : Operator) (l : Symbol) → IsEntry r f table → IsPolynomial (ranking_cmp r) q → leader (symbols_under r) q ≡ Some l → 60 < total_order (derivative_by t l) → step_answer (setting_of r) f q t ≡ Err no_step
+pub too_high_no_step : (r : RankingValue) (f q : Polynomial Symbol) (table : Monomial Symbol) (t : Operator) (l : Symbol) → IsEntry r f table → IsPolynomial (ranking_cmp r) q → leader (symbols_under r) q ≡ Some l → 60 < total_order (derivative_by t l) → reduction_answer (setting_of r) f q t ≡ Err no_step
 too_high_no_step r f q table t l h i e o =
     let z = too_high r f table (derivative_by t l) h o in
     let one = leader_degree r l q i e in

@@ -4,7 +4,7 @@ use Rattle.std.specs.Int.{◌∣◌}
 use Rattle.std.proofs.lemmas.List.Elements.{All-nil, All-cons}
 use Rattle.std.proofs.Math.Nat.{eq-zero_of_zero-dvd}
 use Rattle.dz_algebra.specs.Monomial.{with_power}
-use Rattle.dz_algebra.specs.Norm.{gcd, content, divided, norm}
+use Rattle.dz_algebra.specs.Norm.{gcd, content, divided}
 use Rattle.dz_algebra.specs.Parts.{degree, coefficient_of}
 use Rattle.dz_algebra.specs.Polynomial.{Polynomial, IsPolynomial, pairs}
 use Rattle.dz_algebra.specs.Size.{Refusal, wide, large, operation, product_answer, difference_answer}
@@ -23,7 +23,7 @@ use Rattle.dz_terms.specs.declared.sums.Sign.TheVariants.{Minus}
 use Rattle.dz_terms.proofs.Summing.{minus_negates}
 use Rattle.dz_terms.proofs.SymbolLaws.{ranking_order}
 use Rattle.dz_diff.specs.Outcome.{◌>>=◌}
-use Rattle.dz_step.specs.Step.{step_by}
+use Rattle.dz_step.specs.Step.{Reduction, reduction_by}
 
 -- ---- a power changes no coefficient
 content_times : (r : RankingValue) (v : Symbol) (n : ℕ) (p : Polynomial Symbol) → content (times_power (ranking_cmp r) v n p) ≡ content p
@@ -91,48 +91,50 @@ module _ (r : RankingValue) (f q m : Polynomial Symbol) (v : Symbol) (e : ℕ) w
   pub at_least_one : (top : Polynomial Symbol) (k : ℕ) → top ≡ times_power (ranking_cmp r) v (d - e) c → k ≡ gcd (content m) (content top) → IsPolynomial (ranking_cmp r) f → 0 < d → 1 ≤ k
   at_least_one top k s t h l = let g : gcd (content m) (content c) ∣ content c = (gcd_is (content m) (content c)).1 in let p : 0 < gcd (content m) (content c) = positive_divisor (content c) (gcd (content m) (content c)) g (top_is r v f h l) in omega (arith, p, common top k s t)
 
-  module _ (top : Polynomial Symbol) (k : ℕ) (s : top ≡ times_power (ranking_cmp r) v (d - e) c) (t : k ≡ gcd (content m) (content top)) where
-    -- the second factor
-    second : divided (pos k) top ≡ times_power (ranking_cmp r) v (d - e) (divided (pos (gcd (content m) (content c))) c)
-    second = ap (divided (pos k)) s ∙ divided_times r v (d - e) (pos k) c ∙ ap (λ n. times_power (ranking_cmp r) v (d - e) (divided (pos n) c)) (common top k s t)
+  module _ (top : Polynomial Symbol) (k : ℕ) (s : top ≡ times_power (ranking_cmp r) v (d - e) c) (t : k ≡ gcd (content m) (content top)) (factor shift : Polynomial Symbol) (first_is : factor ≡ divided (pos k) m) (second_is : shift ≡ divided (pos k) top) where
+    -- both factors of the products
+    first : divided (pos (gcd (content m) (content c))) m ≡ factor
+    first = ap (λ n. divided (pos n) m) (sym (common top k s t)) ∙ sym first_is
+
+    second : times_power (ranking_cmp r) v (d - e) (divided (pos (gcd (content m) (content c))) c) ≡ shift
+    second = ap (λ n. times_power (ranking_cmp r) v (d - e) (divided (pos n) c)) (sym (common top k s t)) ∙ sym (divided_times r v (d - e) (pos k) c) ∙ ap (divided (pos k)) (sym s) ∙ sym second_is
 
     abbrev left_answer : Result (Polynomial Symbol) Refusal
-    left_answer = operation (symbols_under r) (pairs (ranking_cmp r) (divided (pos k) m) f)
+    left_answer = operation (symbols_under r) (pairs (ranking_cmp r) factor f)
 
     abbrev right_answer : Result (Polynomial Symbol) Refusal
-    right_answer = operation (symbols_under r) (pairs (ranking_cmp r) (divided (pos k) top) q)
+    right_answer = operation (symbols_under r) (pairs (ranking_cmp r) shift q)
 
-    -- the step, in its parts
-    in_parts : step_by (symbols_under r) f q m v d e ≡ (left_answer >>= (λ a. right_answer >>= (λ b. difference_answer (symbols_under r) a b >>= (λ x. Ok (norm x)))))
-    in_parts =
-        ap₂ (λ (x y : Result (Polynomial Symbol) Refusal). x >>= (λ a. y >>= (λ b. difference_answer (symbols_under r) a b >>= (λ z. Ok (norm z)))))
-        (ap (λ n. product_answer (symbols_under r) (divided (pos n) m) f) (sym (common top k s t)))
-        (ap (λ p. product_answer (symbols_under r) p q) (sym second))
+    abbrev made : Polynomial Symbol → Reduction
+    made x = record { factor = factor; shift = shift; rest = x }
 
-    -- where no part is refused, the norm of what is left is the result
-    pub result_is : (a b x n : Polynomial Symbol) → left_answer ≡ Ok a → right_answer ≡ Ok b → operation (symbols_under r) (a ++ with_sign Minus b) ≡ Ok x → n ≡ norm x → step_by (symbols_under r) f q m v d e ≡ Ok n
-    result_is a b x n h i j e =
+    -- the reduction, in its parts
+    in_parts : reduction_by (symbols_under r) f q m v d e ≡ (left_answer >>= (λ a. right_answer >>= (λ b. difference_answer (symbols_under r) a b >>= (λ x. Ok (made x)))))
+    in_parts = ap₂ (λ x y. product_answer (symbols_under r) x f >>= (λ a. product_answer (symbols_under r) y q >>= (λ b. difference_answer (symbols_under r) a b >>= (λ z. Ok (record { factor = x; shift = y; rest = z }))))) first second
+
+    -- where no part is refused, the parts are the reduction
+    pub result_is : (a b x : Polynomial Symbol) → left_answer ≡ Ok a → right_answer ≡ Ok b → operation (symbols_under r) (a ++ with_sign Minus b) ≡ Ok x → reduction_by (symbols_under r) f q m v d e ≡ Ok (made x)
+    result_is a b x h i j =
         in_parts
-        ∙ ap (λ (l : Result (Polynomial Symbol) Refusal). l >>= (λ a. right_answer >>= (λ b. difference_answer (symbols_under r) a b >>= (λ x. Ok (norm x))))) h
-        ∙ ap (λ (l : Result (Polynomial Symbol) Refusal). l >>= (λ b. difference_answer (symbols_under r) a b >>= (λ x. Ok (norm x)))) i
-        ∙ ap (λ p. operation (symbols_under r) (a ++ p) >>= (λ x. Ok (norm x))) (sym (minus_negates b))
-        ∙ ap (λ (l : Result (Polynomial Symbol) Refusal). l >>= (λ x. Ok (norm x))) j
-        ∙ ap Ok (sym e)
+        ∙ ap (λ (l : Result (Polynomial Symbol) Refusal). l >>= (λ a. right_answer >>= (λ b. difference_answer (symbols_under r) a b >>= (λ x. Ok (made x))))) h
+        ∙ ap (λ (l : Result (Polynomial Symbol) Refusal). l >>= (λ b. difference_answer (symbols_under r) a b >>= (λ x. Ok (made x)))) i
+        ∙ ap (λ p. operation (symbols_under r) (a ++ p) >>= (λ x. Ok (made x))) (sym (minus_negates b))
+        ∙ ap (λ (l : Result (Polynomial Symbol) Refusal). l >>= (λ x. Ok (made x))) j
 
-    -- where one is, so is the step
-    pub left_refused : (stop : PolyStop) → IsStop stop left_answer → IsStop stop (step_by (symbols_under r) f q m v d e)
+    -- where one is, so is the reduction
+    pub left_refused : (stop : PolyStop) → IsStop stop left_answer → IsStop stop (reduction_by (symbols_under r) f q m v d e)
     left_refused stop h = subst (IsStop stop) (sym in_parts) (stop_first stop left_answer _ h)
 
-    pub right_refused : (stop : PolyStop) (a : Polynomial Symbol) → left_answer ≡ Ok a → IsStop stop right_answer → IsStop stop (step_by (symbols_under r) f q m v d e)
+    pub right_refused : (stop : PolyStop) (a : Polynomial Symbol) → left_answer ≡ Ok a → IsStop stop right_answer → IsStop stop (reduction_by (symbols_under r) f q m v d e)
     right_refused stop a h i =
-        subst (IsStop stop) (sym (in_parts ∙ ap (λ (l : Result (Polynomial Symbol) Refusal). l >>= (λ a. right_answer >>= (λ b. difference_answer (symbols_under r) a b >>= (λ x. Ok (norm x))))) h))
+        subst (IsStop stop) (sym (in_parts ∙ ap (λ (l : Result (Polynomial Symbol) Refusal). l >>= (λ a. right_answer >>= (λ b. difference_answer (symbols_under r) a b >>= (λ x. Ok (made x))))) h))
         (stop_first stop right_answer _ i)
 
-    pub rest_refused : (stop : PolyStop) (a b : Polynomial Symbol) → left_answer ≡ Ok a → right_answer ≡ Ok b → IsStop stop (operation (symbols_under r) (a ++ with_sign Minus b)) → IsStop stop (step_by (symbols_under r) f q m v d e)
+    pub rest_refused : (stop : PolyStop) (a b : Polynomial Symbol) → left_answer ≡ Ok a → right_answer ≡ Ok b → IsStop stop (operation (symbols_under r) (a ++ with_sign Minus b)) → IsStop stop (reduction_by (symbols_under r) f q m v d e)
     rest_refused stop a b h i j =
         subst (IsStop stop)
         (sym (in_parts
-        ∙ ap (λ (l : Result (Polynomial Symbol) Refusal). l >>= (λ a. right_answer >>= (λ b. difference_answer (symbols_under r) a b >>= (λ x. Ok (norm x))))) h
-        ∙ ap (λ (l : Result (Polynomial Symbol) Refusal). l >>= (λ b. difference_answer (symbols_under r) a b >>= (λ x. Ok (norm x)))) i
-        ∙ ap (λ p. operation (symbols_under r) (a ++ p) >>= (λ x. Ok (norm x))) (sym (minus_negates b))))
+        ∙ ap (λ (l : Result (Polynomial Symbol) Refusal). l >>= (λ a. right_answer >>= (λ b. difference_answer (symbols_under r) a b >>= (λ x. Ok (made x))))) h
+        ∙ ap (λ (l : Result (Polynomial Symbol) Refusal). l >>= (λ b. difference_answer (symbols_under r) a b >>= (λ x. Ok (made x)))) i
+        ∙ ap (λ p. operation (symbols_under r) (a ++ p) >>= (λ x. Ok (made x))) (sym (minus_negates b))))
         (stop_first stop (operation (symbols_under r) (a ++ with_sign Minus b)) _ j)

@@ -1,4 +1,5 @@
 pub mod Step
+pub mod Reductions
 pub mod Permission
 pub mod Run
 pub mod FullRun
@@ -9,3 +10,4 @@ pub mod Replays
 pub mod Turns
 pub mod Divisors
 pub mod Division
+pub mod Multiples

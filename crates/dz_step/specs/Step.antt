@@ -67,26 +67,51 @@ is_permitted g s role q l t = permitted_if g.symbols (usable role s.inequations)
 abbrev pub step_degree : Symbols Symbol → Operator → Symbol → Polynomial Symbol → ℕ
 step_degree g t l q = cond (is_proper t) 1 (degree g.cmp l q)
 
--- The step on f, of degree d in v, by a polynomial q of degree e in v with the initial m: with c the coefficient of v^d in f
--- and k the greatest common divisor of the coefficients of m and c, the norm of (m/k)*f - (c/k)*v^(d-e)*q. There are two
--- products and a difference, in this order.
-abbrev pub step_by : Symbols Symbol → Polynomial Symbol → Polynomial Symbol → Polynomial Symbol → Symbol → ℕ → ℕ → Result (Polynomial Symbol) Refusal
-step_by g f q m v d e =
-    let c = coefficient_of g.cmp v d f in
-    let k = pos (gcd (content m) (content c)) in do
-      left ← product_answer g (divided k m) f
-      right ← product_answer g (times_power g.cmp v (d - e) (divided k c)) q
-      rest ← difference_answer g left right
-      Ok (norm rest)
+-- what a reduction of f by q makes: the factor times f is the rest and the shift times q
+pub record Reduction : Type 0 where
+  pub factor : Polynomial Symbol
+  pub shift : Polynomial Symbol
+  pub rest : Polynomial Symbol
 
--- the step on f by an operator's derivative of q, without the test of permission: first the operator's derivations
-abbrev pub step_answer : Setting → Polynomial Symbol → Polynomial Symbol → Operator → Result (Polynomial Symbol) Stop
-step_answer g f q t = do
+-- The reduction of f, of degree d in v, by a polynomial q of degree e in v with the initial m (Ritt's pseudo-division): with c
+-- the coefficient of v^d in f and k the greatest common divisor of the coefficients of m and c, the factor is m/k, the shift is
+-- (c/k)*v^(d-e), and the rest is what the shift times q leaves of the factor times f. There are two products and a difference,
+-- in this order.
+abbrev pub reduction_by : Symbols Symbol → Polynomial Symbol → Polynomial Symbol → Polynomial Symbol → Symbol → ℕ → ℕ → Result Reduction Refusal
+reduction_by g f q m v d e =
+    let c = coefficient_of g.cmp v d f in
+    let k = pos (gcd (content m) (content c)) in
+    let factor = divided k m in
+    let shift = times_power g.cmp v (d - e) (divided k c) in do
+      left ← product_answer g factor f
+      right ← product_answer g shift q
+      rest ← difference_answer g left right
+      Ok (record { factor = factor; shift = shift; rest = rest })
+
+-- the reduction of f by an operator's derivative of q, without the test of permission: first the operator's derivations
+abbrev pub reduction_answer : Setting → Polynomial Symbol → Polynomial Symbol → Operator → Result Reduction Stop
+reduction_answer g f q t = do
   l ← given (leader g.symbols q) no_step
   _ ← needs (nat_le (step_degree g.symbols t l q) (degree g.symbols.cmp (derivative_by t l) f)) no_step
   p ← told_as refused (operator_answer g t q)
   m ← told_as refused (multiplier_answer g.symbols (multiplier_of t) l q)
-  told_as refused (step_by g.symbols f p m (derivative_by t l) (degree g.symbols.cmp (derivative_by t l) f) (step_degree g.symbols t l q))
+  told_as refused (reduction_by g.symbols f p m (derivative_by t l) (degree g.symbols.cmp (derivative_by t l) f) (step_degree g.symbols t l q))
+
+-- the reduction of f by the equation and the operator of a step, without the test of permission
+abbrev pub reduction_at : Setting → State → Polynomial Symbol → Step → Result Reduction Stop
+reduction_at g s f st = given (at_place st.place s.equations) no_step >>= (λ q. reduction_answer g f q st.operator)
+
+-- a step is a reduction of which the norm of the rest is kept
+abbrev pub normed : {E : Type 0} → Result Reduction E → Result (Polynomial Symbol) E
+normed x = x >>= (λ y. Ok (norm y.rest))
+
+-- the step on f by a polynomial
+abbrev pub step_by : Symbols Symbol → Polynomial Symbol → Polynomial Symbol → Polynomial Symbol → Symbol → ℕ → ℕ → Result (Polynomial Symbol) Refusal
+step_by g f q m v d e = normed (reduction_by g f q m v d e)
+
+-- the step on f by an operator's derivative of q, without the test of permission
+abbrev pub step_answer : Setting → Polynomial Symbol → Polynomial Symbol → Operator → Result (Polynomial Symbol) Stop
+step_answer g f q t = normed (reduction_answer g f q t)
 
 -- a step on f at a state in a role, with all its conditions
 abbrev pub step_in : Setting → State → Role → Polynomial Symbol → Step → Result (Polynomial Symbol) Stop

@@ -1,22 +1,23 @@
 //! Full runs.
 
-ghost use Rattle.std.specs.Prelude.{◌≡◌, ◌≢◌, ◌<◌, ℕ, true, [], Some, Ok, IfOk, IfErr, OnOk, OnErr};
+ghost use Rattle.std.specs.Prelude.{◌≡◌, ◌≢◌, ◌<◌, ◌≤◌, ◌-◌, ℕ, true, [], Some, Ok, IfOk, IfErr, OnOk, OnErr};
 ghost use Rattle.dz_poly.specs.Books.{IsAdded, IsKept, Lives, polynomial};
 ghost use Rattle.dz_terms.specs.Entries.{IsEntry};
 ghost use Rattle.dz_diff.specs.Operations.{setting_of};
 ghost use Rattle.dz_diff.specs.States.{StandsIn, state_in};
 ghost use Rattle.dz_step.specs.Attempts.{IsAttemptOf, ended};
 ghost use Rattle.dz_step.specs.Divisors.{AreDivisors};
-ghost use Rattle.dz_step.specs.FullRun.{full_run, next_step};
+ghost use Rattle.dz_step.specs.FullRun.{finished, full_run, next_step};
 ghost use Rattle.dz_step.specs.Step.{step_in};
 ghost use Rattle.dz_step.specs.StepStops.{IsStepStop};
 ghost use Rattle.dz_step.specs.declared.attempts.AttemptStop.TheVariants.{Memory};
 ghost use Rattle.dz_step.specs.declared.stepping.StepStop.TheVariants.{NotStep};
+ghost use Rattle.dz_algebra.specs.Norm.{norm};
 ghost use Rattle.dz_algebra.specs.Polynomial.{Polynomial};
 ghost use Rattle.dz_rank.specs.declared.symbols.Symbol.{Symbol};
 ghost use Rattle.dz_step.specs.Turns.{IsAdvance, IsAt, IsTurn};
 
-use crate::divisors::{Divisor, divisors};
+use crate::divisors::{Divisor, divisors_of};
 use crate::permission::equation_at;
 use crate::searching::next_step_entry;
 use crate::stepping::{StepStop, step_entry};
@@ -161,6 +162,7 @@ fn advance(
     ensures table { AreDivisors book.now.ranking (state_in book.now state.now) role table.new.items }
     ensures rest { IsEntry book.now.ranking progress.new.rest.terms.items progress.new.rest.degrees.items }
     ensures less { IfOk result (λ taken. taken ≡ true → progress.new.left < progress.old.left) }
+    ensures no_more { progress.new.left ≤ progress.old.left }
     ensures advance { (budget : ℕ) (f : Polynomial Symbol)
         → IsAt book.now.ranking (state_in book.now state.now) role budget f progress.old
         → IsAdvance book.now.ranking (state_in book.now state.now) role budget f progress.new result }
@@ -192,8 +194,9 @@ fn run_out(
     requires rest { IsEntry book.now.ranking first.rest.terms.items first.rest.degrees.items }
     ensures ok { IfOk result (λ p. (budget : ℕ) (f : Polynomial Symbol)
         → IsAt book.now.ranking (state_in book.now state.now) role budget f first
-        → ended (full_run (setting_of book.now.ranking) (state_in book.now state.now) role budget f)
-        ≡ Some (p.run, p.rest.terms.items)) }
+        → full_run (setting_of book.now.ranking) (state_in book.now state.now) role budget f
+        ≡ finished p.run p.rest.terms.items (budget - p.left)) }
+    ensures no_more { IfOk result (λ p. p.left ≤ first.left) }
     ensures rest { IfOk result (λ p.
         IsEntry book.now.ranking p.rest.terms.items p.rest.degrees.items) }
     ensures stopped { IfErr result (λ a. (budget : ℕ) (f : Polynomial Symbol)
@@ -228,37 +231,52 @@ fn no_memory(alloc: Global) -> Attempt
     }
 }
 
-/// The full run on `f`, with its end.
-fn full_progress(
+/// A full run that came to its end: its steps, its end, and its count, the number of its steps and
+/// of the terms of all their results.
+#[derive(Drop)]
+pub struct FullRun {
+    pub run: StepList,
+    pub end: Entry,
+    pub count: u32,
+}
+
+/// The full run from an entry on, which is the norm of `f`, at a state in a role within a budget,
+/// with its end and its count.
+pub fn run_fully(
     alloc: Global,
     book: &Book,
-    f: Poly,
+    start: Entry,
     state: &State,
     role: Role,
     budget: u32,
-) -> Result<Progress, Attempt>
+) -> Result<FullRun, Attempt>
     requires stands { StandsIn book.now state.now }
-    requires f { Lives book.now f }
-    ensures ok { IfOk result (λ p.
-        ended (full_run (setting_of book.now.ranking) (state_in book.now state.now) role budget
-        (polynomial book.now f)) ≡ Some (p.run, p.rest.terms.items)) }
-    ensures rest { IfOk result (λ p.
-        IsEntry book.now.ranking p.rest.terms.items p.rest.degrees.items) }
-    ensures stopped { IfErr result (λ a. IsAttemptOf (full_run (setting_of book.now.ranking)
-        (state_in book.now state.now) role budget (polynomial book.now f)) a.run a.stop) }
+    requires start { IsEntry book.now.ranking start.terms.items start.degrees.items }
+    ensures finished { IfOk result (λ x. (f : Polynomial Symbol) → start.terms.items ≡ norm f
+        → full_run (setting_of book.now.ranking) (state_in book.now state.now) role budget f
+        ≡ finished x.run x.end.terms.items x.count) }
+    ensures end { IfOk result (λ x.
+        IsEntry book.now.ranking x.end.terms.items x.end.degrees.items) }
+    ensures stopped { IfErr result (λ a. (f : Polynomial Symbol) → start.terms.items ≡ norm f
+        → IsAttemptOf (full_run (setting_of book.now.ranking) (state_in book.now state.now) role
+        budget f) a.run a.stop) }
 {
-    let Ok(table) = divisors(book, state, role) else {
-        return Err(no_memory(alloc));
-    };
-    let Ok(rest) = norm_entry(book, f) else {
+    let Ok(table) = divisors_of(book, state, role) else {
         return Err(no_memory(alloc));
     };
     let first = Progress {
         run: StepList::new(alloc),
-        rest,
+        rest: start,
         left: budget,
     };
-    run_out(book, state, role, table, first)
+    match run_out(book, state, role, table, first) {
+        Ok(Progress { run, rest, left }) => Ok(FullRun {
+            run,
+            end: rest,
+            count: budget - left,
+        }),
+        Err(attempt) => Err(attempt),
+    }
 }
 
 /// The full run on `f` at a state in a role within a budget, with its end.
@@ -286,8 +304,11 @@ pub fn reduce_fully(
     ensures added { IfOk result (λ x. IsAdded book.old book.new x.1) }
     ensures refused { OnErr result (book.new ≡ book.old) }
 {
-    let Progress { run, rest, left: _ } = full_progress(alloc, book, f, state, role, budget)?;
-    match book.keep(rest) {
+    let Ok(norm) = norm_entry(book, f) else {
+        return Err(no_memory(alloc));
+    };
+    let FullRun { run, end, count: _ } = run_fully(alloc, book, norm, state, role, budget)?;
+    match book.keep(end) {
         Ok(end) => Ok((run, end)),
         Err(_) => Err(Attempt {
             run,

@@ -30,7 +30,7 @@ pub(crate) enum Answer {
 /// What is kept of an equation that divides: its leader, its degree in it, and whether its initial
 /// and its separant are permitted.
 #[derive(Clone, Copy, Debug, PartialEq, Eq)]
-pub(crate) struct Divisor {
+pub struct Divisor {
     pub(crate) lead: Symbol,
     pub(crate) degree: u16,
     initial: Answer,
@@ -66,7 +66,7 @@ fn unasked(ranking: &Ranking, role: Role, place: u16, q: &Entry) -> Option<Divis
 }
 
 /// What is kept of the equations of a state before anything is asked.
-pub(crate) fn divisors(
+pub fn divisors_of(
     book: &Book,
     state: &State,
     role: Role,

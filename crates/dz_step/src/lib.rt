@@ -12,6 +12,7 @@ mod attempts;
 mod dividing;
 mod divisors;
 pub mod laws;
+mod multiples;
 mod permission;
 mod reducing;
 mod replaying;
@@ -19,13 +20,17 @@ mod searching;
 pub mod stepping;
 mod steps;
 
-pub use attempts::{Attempt, AttemptStop, reduce_fully};
-pub use dividing::divides_exactly;
+pub use attempts::{Attempt, AttemptStop, FullRun, reduce_fully, run_fully};
+pub use dividing::{divided_entry, divides_exactly};
+pub use divisors::{Divisor, divisors_of};
 pub use dz_diff::State;
 use dz_rank::Operator;
-pub use permission::permitted;
-pub use replaying::{ReplayFault, replay};
-pub use stepping::StepStop;
+pub use multiples::{has_proper_derivative, is_reducible};
+pub use permission::{is_granted, may_multiply, member_at, multiplier, permitted};
+pub use reducing::Reduction;
+pub use replaying::{ReplayFault, RunEnd, replay, run_entry};
+pub use searching::{admits, next_step_entry};
+pub use stepping::{StepStop, reduction_at};
 pub use steps::StepList;
 
 /// The multiplier of a step or a split: the initial or the separant of an equation.

@@ -22,7 +22,7 @@ use std::alloc::{AllocError, Global};
 
 /// The initial or the separant of an entry by a symbol.
 #[tactic(auto, using(crate::proofs::Permissions::initial_answered))]
-fn multiplier(
+pub fn multiplier(
     alloc: Global,
     ranking: &Ranking,
     q: &Entry,
@@ -55,7 +55,7 @@ fn left_out(role: Role) -> usize
 }
 
 /// Whether a multiplier is ground and not zero, or its norm is an inequation that counts in a role.
-fn may_multiply(book: &Book, state: &State, role: Role, multiplier: Entry) -> bool
+pub fn may_multiply(book: &Book, state: &State, role: Role, multiplier: Entry) -> bool
     requires stands { StandsIn book.now state.now }
     requires multiplier { IsEntry book.now.ranking multiplier.terms.items multiplier.degrees.items }
     ensures { result ≡ is_allowed (symbols_under book.now.ranking)
@@ -65,17 +65,12 @@ fn may_multiply(book: &Book, state: &State, role: Role, multiplier: Entry) -> bo
         return true;
     }
     let norm = into_norm(multiplier);
-    is_among(
-        book,
-        state.inequations(),
-        left_out(role),
-        norm.terms.as_slice(),
-    )
+    is_among(book, state.inequations(), left_out(role), &norm)
 }
 
 /// Whether a multiplier of an equation with this leader fits and is permitted in a role.
 #[tactic(auto, using(crate::proofs::Permissions::refused_not_permitted))]
-pub(crate) fn is_granted(
+pub fn is_granted(
     book: &Book,
     state: &State,
     role: Role,
@@ -108,20 +103,26 @@ pub(crate) fn which_of(operator: Operator) -> Which
     }
 }
 
-/// The equation at a place, counted from 1.
+/// What stands at a place of a list, counted from 1.
 #[tactic(auto, using(crate::proofs::BookPlaces::no_place, crate::proofs::BookPlaces::past_all, crate::proofs::BookPlaces::place_is))]
-pub(crate) fn equation_at(state: &State, place: u16) -> Option<Poly>
-    ensures { result ≡ at_place place state.now.equations }
+pub fn member_at(polys: &[Poly], place: u16) -> Option<Poly>
+    ensures { result ≡ at_place place polys.now }
 {
-    let equations = state.equations();
     let place = place as usize;
     if place == 0 {
         return None;
     }
-    if place > equations.len() {
+    if place > polys.len() {
         return None;
     }
-    Some(equations[place - 1])
+    Some(polys[place - 1])
+}
+
+/// The equation at a place, counted from 1.
+pub(crate) fn equation_at(state: &State, place: u16) -> Option<Poly>
+    ensures { result ≡ at_place place state.now.equations }
+{
+    member_at(state.equations(), place)
 }
 
 /// Whether the multiplier of a step by the equation at a place, counted from 1, is permitted in a

@@ -12,10 +12,10 @@ ghost use Rattle.dz_diff.specs.Operations.{setting_of};
 ghost use Rattle.dz_diff.specs.States.{StandsIn, state_in};
 ghost use Rattle.dz_diff.specs.Tests.{Polynomials};
 ghost use Rattle.dz_step.specs.Divisors.{AreDivisors, IsDivisorOf};
-ghost use Rattle.dz_step.specs.FullRun.{next_step, step_at, step_with};
+ghost use Rattle.dz_step.specs.FullRun.{admits, next_step, step_at, step_with};
 ghost use Rattle.dz_step.specs.Step.{step_degree};
 
-use crate::divisors::{Divisor, answered};
+use crate::divisors::{Divisor, answered, divisors_of};
 use crate::permission::which_of;
 use crate::stepping::takes_derivation;
 use crate::{Role, Step};
@@ -111,7 +111,7 @@ fn step_at(
 
 /// The step that a full run takes next on `f`: at the greatest derivative at which there is one,
 /// with the least place; `None` where there is none.
-pub(crate) fn next_step_entry(
+pub fn next_step_entry(
     book: &Book,
     state: &State,
     role: Role,
@@ -136,4 +136,16 @@ pub(crate) fn next_step_entry(
         }
     }
     Ok(None)
+}
+
+/// Whether an entry admits a step at a state in a role.
+pub fn admits(book: &Book, state: &State, role: Role, f: &Entry) -> Result<bool, AllocError>
+    requires stands { StandsIn book.now state.now }
+    requires f { IsEntry book.now.ranking f.now.terms.items f.now.degrees.items }
+    ensures { IfOk result (λ b. b ≡ admits (setting_of book.now.ranking)
+        (state_in book.now state.now) role f.now.terms.items) }
+{
+    let mut table = divisors_of(book, state, role)?;
+    let next = next_step_entry(book, state, role, &mut table, f)?;
+    Ok(next.is_some())
 }

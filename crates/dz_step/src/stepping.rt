@@ -8,14 +8,18 @@ ghost use Rattle.dz_terms.specs.Entries.{IsEntry};
 ghost use Rattle.dz_terms.specs.Ranked.{symbols_under};
 ghost use Rattle.dz_diff.specs.Operations.{setting_of};
 ghost use Rattle.dz_diff.specs.Operators.{is_proper};
-ghost use Rattle.dz_step.specs.Step.{step_answer};
+ghost use Rattle.dz_diff.specs.States.{StandsIn, state_in};
+ghost use Rattle.dz_step.specs.Reductions.{IsReductionEntry, reduction_in};
+ghost use Rattle.dz_step.specs.Step.{reduction_answer, reduction_at, step_answer};
 ghost use Rattle.dz_step.specs.StepStops.{GivesStep, IsStepStop};
 
-use crate::reducing::{degree_of, reduced};
-use dz_diff::{applied, initial_of, leader_of, partial_derivative};
+use crate::Step;
+use crate::permission::equation_at;
+use crate::reducing::{Reduction, degree_of, reduced};
+use dz_diff::{State, applied, initial_of, leader_of, partial_derivative};
 use dz_poly::{Book, Limit, Poly, PolyStop};
 use dz_rank::{Operator, Ranking, Symbol, raise};
-use dz_terms::Entry;
+use dz_terms::{Entry, into_norm};
 use std::alloc::{AllocError, Global};
 use thiserror::Error;
 
@@ -69,8 +73,8 @@ pub(crate) fn takes_derivation(operator: Operator) -> bool
     i != 0 || j != 0 || k != 0 || l != 0
 }
 
-/// The step on `f` by a proper operator's derivative of `q`, whose leader is `v`.
-fn step_by_derivative(
+/// The reduction of `f` by a proper operator's derivative of `q`, whose leader is `v`.
+fn reduction_by_derivative(
     alloc: Global,
     ranking: &Ranking,
     f: &Entry,
@@ -78,16 +82,16 @@ fn step_by_derivative(
     operator: Operator,
     lead: Symbol,
     v: Symbol,
-) -> Result<Entry, StepStop>
+) -> Result<Reduction, StepStop>
     requires f { IsEntry ranking.now f.now.terms.items f.now.degrees.items }
     requires q { IsEntry ranking.now q.now.terms.items q.now.degrees.items }
     requires leads { leader (symbols_under ranking.now) q.now.terms.items ≡ Some lead }
     requires proper { is_proper operator ≡ true }
     requires derivative { v ≡ derivative_by operator lead }
-    ensures ok { IfOk result (λ x. step_answer (setting_of ranking.now) f.now.terms.items
-        q.now.terms.items operator ≡ Ok x.terms.items) }
-    ensures entry { IfOk result (λ x. IsEntry ranking.now x.terms.items x.degrees.items) }
-    ensures refused { IfErr result (λ stop. IsStepStop stop (step_answer (setting_of ranking.now)
+    ensures ok { IfOk result (λ x. reduction_answer (setting_of ranking.now) f.now.terms.items
+        q.now.terms.items operator ≡ Ok (reduction_in x)) }
+    ensures entries { IfOk result (λ x. IsReductionEntry ranking.now x) }
+    ensures refused { IfErr result (λ stop. IsStepStop stop (reduction_answer (setting_of ranking.now)
         f.now.terms.items q.now.terms.items operator)) }
 {
     if degree_of(ranking, f, v) == 0 {
@@ -99,8 +103,8 @@ fn step_by_derivative(
     Ok(rest)
 }
 
-/// The step on `f` by `q` itself, whose leader is `v`.
-fn step_by_itself(
+/// The reduction of `f` by `q` itself, whose leader is `v`.
+fn reduction_by_itself(
     alloc: Global,
     ranking: &Ranking,
     f: &Entry,
@@ -108,16 +112,16 @@ fn step_by_itself(
     operator: Operator,
     lead: Symbol,
     v: Symbol,
-) -> Result<Entry, StepStop>
+) -> Result<Reduction, StepStop>
     requires f { IsEntry ranking.now f.now.terms.items f.now.degrees.items }
     requires q { IsEntry ranking.now q.now.terms.items q.now.degrees.items }
     requires leads { leader (symbols_under ranking.now) q.now.terms.items ≡ Some lead }
     requires improper { is_proper operator ≡ false }
     requires derivative { v ≡ derivative_by operator lead }
-    ensures ok { IfOk result (λ x. step_answer (setting_of ranking.now) f.now.terms.items
-        q.now.terms.items operator ≡ Ok x.terms.items) }
-    ensures entry { IfOk result (λ x. IsEntry ranking.now x.terms.items x.degrees.items) }
-    ensures refused { IfErr result (λ stop. IsStepStop stop (step_answer (setting_of ranking.now)
+    ensures ok { IfOk result (λ x. reduction_answer (setting_of ranking.now) f.now.terms.items
+        q.now.terms.items operator ≡ Ok (reduction_in x)) }
+    ensures entries { IfOk result (λ x. IsReductionEntry ranking.now x) }
+    ensures refused { IfErr result (λ stop. IsStepStop stop (reduction_answer (setting_of ranking.now)
         f.now.terms.items q.now.terms.items operator)) }
 {
     let e = degree_of(ranking, q, lead);
@@ -127,6 +131,61 @@ fn step_by_itself(
     let initial = initial_of(alloc, ranking, q, lead)?;
     let rest = reduced(alloc, ranking, f, q, initial, v, e)?;
     Ok(rest)
+}
+
+/// The reduction of `f` by an operator's derivative of `q`, without the test of permission.
+pub(crate) fn reduction_entry(
+    alloc: Global,
+    ranking: &Ranking,
+    f: &Entry,
+    q: &Entry,
+    operator: Operator,
+) -> Result<Reduction, StepStop>
+    requires f { IsEntry ranking.now f.now.terms.items f.now.degrees.items }
+    requires q { IsEntry ranking.now q.now.terms.items q.now.degrees.items }
+    ensures ok { IfOk result (λ x. reduction_answer (setting_of ranking.now) f.now.terms.items
+        q.now.terms.items operator ≡ Ok (reduction_in x)) }
+    ensures entries { IfOk result (λ x. IsReductionEntry ranking.now x) }
+    ensures refused { IfErr result (λ stop. IsStepStop stop (reduction_answer (setting_of ranking.now)
+        f.now.terms.items q.now.terms.items operator)) }
+{
+    let Some(lead) = leader_of(q) else {
+        return Err(StepStop::NotStep);
+    };
+    let Some(v) = raise(lead, operator) else {
+        return Err(StepStop::NotStep);
+    };
+    if takes_derivation(operator) {
+        return reduction_by_derivative(alloc, ranking, f, q, operator, lead, v);
+    }
+    reduction_by_itself(alloc, ranking, f, q, operator, lead, v)
+}
+
+/// The reduction of `f` by the equation and the operator of a step, without the test of permission.
+pub fn reduction_at(
+    book: &Book,
+    state: &State,
+    f: &Entry,
+    step: Step,
+) -> Result<Reduction, StepStop>
+    requires stands { StandsIn book.now state.now }
+    requires f { IsEntry book.now.ranking f.now.terms.items f.now.degrees.items }
+    ensures ok { IfOk result (λ x. reduction_at (setting_of book.now.ranking)
+        (state_in book.now state.now) f.now.terms.items step ≡ Ok (reduction_in x)) }
+    ensures entries { IfOk result (λ x. IsReductionEntry book.now.ranking x) }
+    ensures refused { IfErr result (λ stop. IsStepStop stop (reduction_at
+        (setting_of book.now.ranking) (state_in book.now state.now) f.now.terms.items step)) }
+{
+    let Some(p) = equation_at(state, step.place) else {
+        return Err(StepStop::NotStep);
+    };
+    reduction_entry(
+        book.allocator(),
+        book.ranking(),
+        f,
+        book.entry(p),
+        step.operator,
+    )
 }
 
 /// The step on `f` by an operator's derivative of `q`, without the test of permission.
@@ -145,16 +204,8 @@ pub(crate) fn step_entry(
     ensures refused { IfErr result (λ stop. IsStepStop stop (step_answer (setting_of ranking.now)
         f.now.terms.items q.now.terms.items operator)) }
 {
-    let Some(lead) = leader_of(q) else {
-        return Err(StepStop::NotStep);
-    };
-    let Some(v) = raise(lead, operator) else {
-        return Err(StepStop::NotStep);
-    };
-    if takes_derivation(operator) {
-        return step_by_derivative(alloc, ranking, f, q, operator, lead, v);
-    }
-    step_by_itself(alloc, ranking, f, q, operator, lead, v)
+    let reduction = reduction_entry(alloc, ranking, f, q, operator)?;
+    Ok(into_norm(reduction.rest))
 }
 
 /// The step on `f` by an operator's derivative of `q`, without the test of permission.

@@ -35,7 +35,7 @@ pub use finish::{Support, conclude};
 pub use making::{number, power};
 pub use powers::{Powers, exponent_of, multiply, with_exponent};
 pub use products::product;
-pub use same::same_terms;
+pub use same::{same_entries, same_terms};
 use std::alloc::{AllocError, AllocFailed};
 pub use sums::{Sign, sum};
 pub use term::Term;

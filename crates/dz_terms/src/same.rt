@@ -1,7 +1,8 @@
-//! Whether terms are equal.
+//! Whether terms, and polynomials, are equal.
 
 ghost use Rattle.std.specs.Prelude.{◌≡◌, ◌↔◌, IsTrue};
 
+use crate::entry::Entry;
 use crate::powers::compare_monomials;
 use crate::term::Term;
 use dz_rank::Ranking;
@@ -35,4 +36,11 @@ pub fn same_terms(ranking: &Ranking, a: &[Term], b: &[Term]) -> bool
         }
     }
     true
+}
+
+/// Whether two entries are of one polynomial.
+pub fn same_entries(ranking: &Ranking, a: &Entry, b: &Entry) -> bool
+    ensures { IsTrue result ↔ (a.now.terms.items ≡ b.now.terms.items) }
+{
+    same_terms(ranking, a.terms.as_slice(), b.terms.as_slice())
 }

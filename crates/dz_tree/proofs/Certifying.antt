@@ -5,7 +5,7 @@ use Rattle.std.proofs.lemmas.Bool.{leb-true, le-leb}
 use Rattle.dz_diff.specs.Outcome.{◌>>=◌, needs, told_as}
 use Rattle.dz_diff.specs.Operations.{Setting}
 use Rattle.dz_diff.specs.State.{State}
-use Rattle.dz_diff.specs.Root.{System, is_closed, root_of}
+use Rattle.dz_tree.specs.Root.{System, is_closed, root_of}
 use Rattle.dz_diff.proofs.Answers.{bind_ok, told_ok, then_ok, ok_same}
 use Rattle.dz_tree.specs.declared.Rule.{Rule}
 use Rattle.dz_tree.specs.declared.Rule.TheVariants as rules
@@ -15,6 +15,7 @@ use Rattle.dz_tree.specs.Lines.{Line, act, closed, chain, pair, spent, spent_pai
 use Rattle.dz_tree.specs.Reasons.{reason_holds}
 use Rattle.dz_tree.specs.Walk.{Tree, End, Below, nothing_below, ended, told_at_line, entered, walk, ends_of, ends_in, all_chains, Verdict, accepted, partial, rejected, judged, verdict_of}
 use Rattle.dz_tree.specs.Certified.{EndsBy, HoldsAt, IsCertifiedFrom, IsCertified}
+use Rattle.dz_tree.specs.Forms.{IsTree}
 
 module _ (g : Setting) (budget : ℕ) where
   -- ---- an entry that is entered holds
@@ -24,7 +25,7 @@ module _ (g : Setting) (budget : ℕ) where
       let same = ok_same c b a.1 in
       record { holds = a.0; none = ap (λ x. x.states) (sym same) ∙ none; free = ap (λ x. x.weight) (sym same) ∙ free }
 
-  entered_holds : (w : ℕ) (s : State) (line : Line) (es : List Evidence) (b : Below) → entered g budget w s line es ≡ Ok b → HoldsAt g budget w s line es b.states b.weight
+  pub entered_holds : (w : ℕ) (s : State) (line : Line) (es : List Evidence) (b : Below) → entered g budget w s line es ≡ Ok b → HoldsAt g budget w s line es b.states b.weight
   unfolding entered
   entered_holds w s (act action) es b e =
       let a1 = bind_ok (told_as told_at_line (perform g s action)) _ b e in
@@ -119,19 +120,24 @@ module _ (g : Setting) (budget : ℕ) where
 
 -- ---- the verdict
 module _ (g : Setting) (system : System) (tree : Tree) where
-  certified_answer : (q : Result (List End) (ℕ × Rule)) → ends_of g system tree ≡ q → IsOk q → IsCertified g system tree
+  certified_answer : IsTree tree → (q : Result (List End) (ℕ × Rule)) → ends_of g system tree ≡ q → IsOk q → IsCertified g system tree
   unfolding ends_of
-  certified_answer (Ok ends) e ok = certified_walk g tree.budget 0 1 (root_of g.symbols system ∷ []) (entries_of tree.lines) ends e
-  certified_answer (Err r) e ok = cc
+  certified_answer formed (Ok ends) e ok = record { formed = formed; holds = certified_walk g tree.budget 0 1 (root_of g.symbols system ∷ []) (entries_of tree.lines) ends e }
+  certified_answer formed (Err r) e ok = cc
 
-  answer_certified : IsCertified g system tree → IsOk (ends_of g system tree)
+  -- the walk over a certified tree comes to its end
+  pub answer_certified : IsCertified g system tree → IsOk (ends_of g system tree)
   unfolding ends_of
-  answer_certified h = walk_certified g tree.budget 0 1 (root_of g.symbols system ∷ []) (entries_of tree.lines) h
+  answer_certified h = walk_certified g tree.budget 0 1 (root_of g.symbols system ∷ []) (entries_of tree.lines) h.holds
 
-  by_verdict : (done : Bool) (v : Verdict) → ((ends : List End) → (cond (all_chains ends) accepted partial ≡ v) ↔ (all_chains ends ≡ done)) → ((n : ℕ) (r : Rule) → rejected n r ≡ v → ⊥)
+  -- and only over such a tree
+  pub certified_is : IsTree tree → IsOk (ends_of g system tree) ↔ IsCertified g system tree
+  certified_is formed = (certified_answer formed (ends_of g system tree) refl, answer_certified)
+
+  by_verdict : IsTree tree → (done : Bool) (v : Verdict) → ((ends : List End) → (cond (all_chains ends) accepted partial ≡ v) ↔ (all_chains ends ≡ done)) → ((n : ℕ) (r : Rule) → rejected n r ≡ v → ⊥)
       → (q : Result (List End) (ℕ × Rule)) → ends_of g system tree ≡ q → (judged q ≡ v) ↔ (IsCertified g system tree × (all_chains (ends_in q) ≡ done))
-  by_verdict done v same apart (Ok ends) e = ((λ h. (certified_answer (Ok ends) e refl, (same ends).0 h)), (λ h. (same ends).1 h.1))
-  by_verdict done v same apart (Err r) e = ((λ h. absurd (apart r.0 r.1 h)), (λ h. absurd (not_ok (ends_of g system tree) e (answer_certified h.0))))
+  by_verdict formed done v same apart (Ok ends) e = ((λ h. (certified_answer formed (Ok ends) e refl, (same ends).0 h)), (λ h. (same ends).1 h.1))
+  by_verdict formed done v same apart (Err r) e = ((λ h. absurd (apart r.0 r.1 h)), (λ h. absurd (not_ok (ends_of g system tree) e (answer_certified h.0))))
     where
       not_ok : (q : Result (List End) (ℕ × Rule)) → q ≡ Err r → IsOk q → ⊥
       not_ok (Ok ends) f ok = cc
@@ -146,9 +152,9 @@ module _ (g : Setting) (system : System) (tree : Tree) where
   some_partial false = ((λ h. refl), (λ h. refl))
 
   -- accepted exactly where certified and complete
-  pub accepted_is : (verdict_of g system tree ≡ accepted) ↔ (IsCertified g system tree × (all_chains (ends_in (ends_of g system tree)) ≡ true))
-  accepted_is = by_verdict true accepted (λ ends. all_accepted (all_chains ends)) (λ n r h. cc) (ends_of g system tree) refl
+  pub accepted_is : IsTree tree → (verdict_of g system tree ≡ accepted) ↔ (IsCertified g system tree × (all_chains (ends_in (ends_of g system tree)) ≡ true))
+  accepted_is formed = by_verdict formed true accepted (λ ends. all_accepted (all_chains ends)) (λ n r h. cc) (ends_of g system tree) refl
 
   -- partial exactly where certified and not complete
-  pub partial_is : (verdict_of g system tree ≡ partial) ↔ (IsCertified g system tree × (all_chains (ends_in (ends_of g system tree)) ≡ false))
-  partial_is = by_verdict false partial (λ ends. some_partial (all_chains ends)) (λ n r h. cc) (ends_of g system tree) refl
+  pub partial_is : IsTree tree → (verdict_of g system tree ≡ partial) ↔ (IsCertified g system tree × (all_chains (ends_in (ends_of g system tree)) ≡ false))
+  partial_is formed = by_verdict formed false partial (λ ends. some_partial (all_chains ends)) (λ n r h. cc) (ends_of g system tree) refl

@@ -13,12 +13,12 @@ use Rattle.dz_poly.specs.Books.{BookValue, IsBook, IsKept, Lives}
 use Rattle.dz_terms.specs.Ranked.{symbols_under}
 use Rattle.dz_diff.specs.Lists.{AllOf}
 use Rattle.dz_diff.specs.Over.{IsOver}
-use Rattle.dz_diff.specs.Root.{System, kept_norms, root_of}
+use Rattle.dz_tree.specs.Root.{System, kept_norms, root_of}
 use Rattle.dz_diff.specs.State.{limit_passed, terms_of}
 use Rattle.dz_diff.specs.States.{IsStateOf, LiveAll, MeanAll, polynomials, state_in}
 use Rattle.dz_diff.specs.Tests.{Polynomials, is_member, is_unit, is_zero}
 use Rattle.dz_diff.proofs.KeptStates.{kept_polynomials}
-use Rattle.dz_diff.proofs.RootStates.{root_is_state}
+use Rattle.dz_tree.proofs.RootStates.{root_is_state}
 use Rattle.dz_tree.specs.Systems.{IsSystemIn, system_in, system_limit}
 
 -- ---- limits
@@ -89,7 +89,7 @@ root_within g s e =
 
 -- ---- in a book
 -- the polynomials of a book are over its ranking
-all_over : (book : BookValue) → IsBook book → (ps : List ℕ) → LiveAll book ps → AllOf (IsOver book.ranking) (polynomials book ps)
+pub all_over : (book : BookValue) → IsBook book → (ps : List ℕ) → LiveAll book ps → AllOf (IsOver book.ranking) (polynomials book ps)
 all_over book h [] live = tt
 all_over book h (p ∷ ps) live =
     let k = h.each p [] (All-head (λ p. Lives book p) p ps live) in

@@ -2,12 +2,13 @@
 use Rattle.std.specs.Prelude.{◌≡◌, ⊤, ℕ, ◌+◌, ◌≤◌, nat_le, true, List, [], ◌∷◌, ◌++◌, Ok}
 use Rattle.dz_diff.specs.Operations.{Setting}
 use Rattle.dz_diff.specs.State.{State}
-use Rattle.dz_diff.specs.Root.{System, is_closed, root_of}
+use Rattle.dz_tree.specs.Root.{System, is_closed, root_of}
 use Rattle.dz_tree.specs.Moves.{perform}
 use Rattle.dz_tree.specs.Chain.{Evidence, chain_weight}
 use Rattle.dz_tree.specs.Lines.{Line, act, closed, chain, pair, Entry, entries_of}
 use Rattle.dz_tree.specs.Reasons.{reason_holds}
 use Rattle.dz_tree.specs.Walk.{Tree}
+use Rattle.dz_tree.specs.Forms.{IsTree}
 
 -- an end without weight holds by a test, and leaves no state
 pub record EndsBy (test : Type 0) (after : List State) (k : ℕ) : Type 0 where
@@ -31,6 +32,7 @@ IsCertifiedFrom g budget w (s ∷ pending) [] = ⊥
 IsCertifiedFrom g budget w (s ∷ pending) (e ∷ es) =
     (after : List State) × (k : ℕ) × HoldsAt g budget w s e.line e.evidence after k × IsCertifiedFrom g budget (w + k) (after ++ pending) es
 
--- the tree is certified for a system
-abbrev pub IsCertified : Setting → System → Tree → Type 0
-IsCertified g system tree = IsCertifiedFrom g tree.budget 0 (root_of g.symbols system ∷ []) (entries_of tree.lines)
+-- a tree is certified for a system: its lines form one tree, and each entry of them holds
+pub record IsCertified (g : Setting) (system : System) (tree : Tree) : Type 0 where
+  pub formed : IsTree tree
+  pub holds : IsCertifiedFrom g tree.budget 0 (root_of g.symbols system ∷ []) (entries_of tree.lines)

@@ -1,3 +1,4 @@
+pub mod Root
 pub mod Systems
 pub mod Members
 pub mod Fault
@@ -6,5 +7,19 @@ pub mod Chain
 pub mod Lines
 pub mod Reasons
 pub mod Walk
+pub mod Forms
 pub mod Certified
+pub mod TreeLines
+pub mod Counting
+pub mod LineOperators
+pub mod Actions
+pub mod Entering
+pub mod Leaving
+pub mod ChainParts
+pub mod Parts
+pub mod EvidenceLines
+pub mod Pending
+pub mod Walking
+pub mod Collecting
+pub mod Standing
 pub mod Laws

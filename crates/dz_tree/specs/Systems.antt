@@ -3,7 +3,7 @@ use Rattle.std.specs.Prelude.{◌≡◌, ℕ, ◌+◌, cond, nat_lt, List, lengt
 use Rattle.dz_algebra.specs.declared.Limit.{Limit}
 use Rattle.dz_algebra.specs.declared.Limit.TheVariants as limits
 use Rattle.dz_poly.specs.Books.{BookValue}
-use Rattle.dz_diff.specs.Root.{System}
+use Rattle.dz_tree.specs.Root.{System}
 use Rattle.dz_diff.specs.State.{terms_of}
 use Rattle.dz_diff.specs.States.{LiveAll, polynomials}
 

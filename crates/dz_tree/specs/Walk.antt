@@ -3,7 +3,7 @@ use Rattle.std.specs.Prelude.{ℕ, ◌+◌, nat_le, Bool, true, ◌&&◌, cond, 
 use Rattle.dz_diff.specs.Outcome.{◌>>=◌, needs, told_as}
 use Rattle.dz_diff.specs.Operations.{Setting}
 use Rattle.dz_diff.specs.State.{State}
-use Rattle.dz_diff.specs.Root.{System, is_closed, root_of}
+use Rattle.dz_tree.specs.Root.{System, is_closed, root_of}
 use Rattle.dz_tree.specs.declared.Rule.{Rule}
 use Rattle.dz_tree.specs.declared.Rule.TheVariants as rules
 use Rattle.dz_tree.specs.Fault.{Fault, rule_of}

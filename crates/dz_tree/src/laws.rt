@@ -2,12 +2,21 @@
 //!
 //! Each function has an empty body: it does nothing, and its clause is the law.
 
+ghost use Rattle.std.specs.Prelude.{◌≤◌};
+ghost use Rattle.dz_rank.specs.Rankings.{RankingValue};
 ghost use Rattle.dz_diff.specs.Operations.{Setting};
-ghost use Rattle.dz_tree.specs.Laws.{TreeLaws};
+ghost use Rattle.dz_tree.specs.Laws.{StateLaws, TreeLaws};
 
 /// A move leads to one state and a fork to two; and a tree is accepted exactly where each line
 /// holds at its state and its running weight and no end is open.
 #[tactic(auto, using(crate::proofs::LawProofs::tree_laws))]
 pub fn trees_are_judged_by_line()
     ensures { (g : Setting) → TreeLaws g }
+{}
+
+/// The root of a system within its limits has the facts of a state, and moves and forks keep them;
+/// and so it is with what may stand in a book.
+#[tactic(auto, using(crate::proofs::StateFacts::state_laws))]
+pub fn states_keep_their_facts()
+    ensures { (r : RankingValue) → r.signature.independents ≤ 4 → StateLaws r }
 {}

@@ -1,15 +1,51 @@
 //! Decomposition trees: moves, forks, chains with evidence, and when a tree is certified.
 //!
-//! So far there are systems and their roots, and of the rest the definitions, in `specs/`, with the
-//! data that they speak of, and the laws of them in `laws`.
+//! [`System`] and [`root`] begin, [`advance`] and [`branches`] go on, [`is_chain`] tells whether a
+//! state is a chain with its evidence, [`check`] replays a tree and [`chains`] gives the states of its
+//! chains. What these answer is defined in `specs/`, with laws in [`laws`].
 #![tactic(auto)]
 
+mod autoreduced;
+mod chain_conditions;
+mod chain_multipliers;
+mod chain_states;
+mod chain_test;
+mod checking;
+mod closing;
+mod drafts;
+mod entering;
+mod entry_fault;
+mod evidence;
+mod fault;
+mod forks;
+mod forming;
+mod inequations;
 pub mod laws;
+mod leaders;
+mod line_operators;
+mod lines;
+mod lists;
+mod moves;
+mod pair_runs;
+mod performing;
+mod reasons;
 mod roots;
+mod spelling;
 mod system;
+mod tree;
+mod walking;
 
+pub use chain_states::chains;
+pub use chain_test::is_chain;
+pub use checking::check;
+pub use closing::is_closed;
+pub use fault::MoveFault;
+pub use line_operators::have_operators_of;
+pub use lines::{Line, Next, Verdict};
+pub use performing::{advance, branches};
 pub use roots::root;
 pub use system::System;
+pub use tree::Tree;
 
 /// A condition on a line of a tree.
 #[derive(Clone, Copy, Debug, PartialEq, Eq, Hash)]

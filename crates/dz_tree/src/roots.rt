@@ -5,7 +5,7 @@ ghost use Rattle.dz_poly.specs.Books.{IsKept, Lives, polynomial};
 ghost use Rattle.dz_rank.specs.Rankings.{RankingValue};
 ghost use Rattle.dz_terms.specs.Entries.{IsEntry};
 ghost use Rattle.dz_terms.specs.Ranked.{symbols_under};
-ghost use Rattle.dz_diff.specs.Root.{kept_norms, root_of};
+ghost use Rattle.dz_tree.specs.Root.{kept_norms, root_of};
 ghost use Rattle.dz_diff.specs.States.{IsStateOf, LiveAll, MeanAll, StandsIn, polynomials, state_in};
 ghost use Rattle.dz_tree.specs.Members.{is_left_out};
 ghost use Rattle.dz_tree.specs.Systems.{IsSystemIn, system_in};
@@ -25,12 +25,12 @@ pub(crate) enum Members {
 
 /// Whether a norm says nothing in this list: as an equation zero, as an inequation what is ground
 /// and not zero.
-fn is_left_out(members: Members, norm: &Entry) -> bool
+pub(crate) fn is_left_out(members: Members, norm: &Entry) -> bool
     ensures { (r : RankingValue) → IsEntry r norm.now.terms.items norm.now.degrees.items
         → result ≡ is_left_out (symbols_under r) members norm.now.terms.items }
 {
     match members {
-        Members::Equations => norm.terms.is_empty(),
+        Members::Equations => norm.is_zero(),
         Members::Inequations => is_unit(norm),
     }
 }
@@ -51,7 +51,7 @@ fn keep_norm(
     ensures kept { IsKept book.old book.new }
 {
     let norm = norm_entry(book, p)?;
-    if is_left_out(members, &norm) || is_among(book, kept, 0, norm.terms.as_slice()) {
+    if is_left_out(members, &norm) || is_among(book, kept, 0, &norm) {
         return Ok(());
     }
     let norm = book.keep(norm)?;

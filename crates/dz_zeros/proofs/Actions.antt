@@ -14,10 +14,10 @@ use Rattle.dz_terms.specs.Ranked.{symbols_under}
 use Rattle.dz_terms.proofs.SymbolLaws.{ranking_order}
 use Rattle.dz_diff.specs.Outcome.{numbered, told_as}
 use Rattle.dz_diff.specs.Lists.{AllOf, SomeOf}
-use Rattle.dz_diff.specs.Tests.{Polynomials, is_unit, is_zero, is_member, same}
+use Rattle.dz_diff.specs.Tests.{Polynomials, has_unit, has_zero, is_member, is_unit, is_zero, same}
 use Rattle.dz_diff.specs.Operations.{setting_of}
 use Rattle.dz_diff.specs.State.{State, at_place, without_place, put_equation, put_inequation, limit_passed, same_state}
-use Rattle.dz_diff.specs.Root.{has_unit, has_zero, is_closed}
+use Rattle.dz_tree.specs.Root.{is_closed}
 use Rattle.dz_diff.proofs.Answers.{bind_ok, told_ok, then_ok, given_then, both, either}
 use Rattle.dz_diff.proofs.Goodness.{Good, good_norm}
 use Rattle.dz_diff.proofs.Places.{taken, put_back, put_all, put_parts, at_other, all-append, all_parts}

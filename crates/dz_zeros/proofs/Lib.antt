@@ -4,3 +4,4 @@ pub mod Actions
 pub mod Walks
 pub mod Roots
 pub mod ZeroSetLaws
+pub mod BookZeros

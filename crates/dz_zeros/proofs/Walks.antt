@@ -7,7 +7,7 @@ use Rattle.dz_diff.specs.Outcome.{◌>>=◌, needs, told_as}
 use Rattle.dz_diff.specs.Lists.{AllOf, SomeOf}
 use Rattle.dz_diff.specs.Operations.{setting_of}
 use Rattle.dz_diff.specs.State.{State}
-use Rattle.dz_diff.specs.Root.{is_closed}
+use Rattle.dz_tree.specs.Root.{is_closed}
 use Rattle.dz_diff.proofs.Answers.{bind_ok, told_ok, then_ok, ok_same}
 use Rattle.dz_diff.proofs.Places.{all-append, some_left, some_right, some_parts}
 use Rattle.dz_tree.specs.declared.Rule.{Rule}

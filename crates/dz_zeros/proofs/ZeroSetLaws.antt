@@ -21,7 +21,7 @@ use Rattle.dz_diff.specs.Lists.{AllOf, SomeOf}
 use Rattle.dz_diff.specs.Tests.{Polynomials}
 use Rattle.dz_diff.specs.Operations.{setting_of}
 use Rattle.dz_diff.specs.State.{State}
-use Rattle.dz_diff.specs.Root.{System, is_closed}
+use Rattle.dz_tree.specs.Root.{System, is_closed}
 use Rattle.dz_diff.proofs.Answers.{both, is_false}
 use Rattle.dz_diff.specs.Over.{AreOver, IsOver}
 use Rattle.dz_diff.proofs.Overs.{all_good, good_over}
@@ -31,6 +31,7 @@ use Rattle.dz_step.specs.declared.Step.{Step}
 use Rattle.dz_step.specs.Run.{run}
 use Rattle.dz_tree.specs.declared.Rule.{Rule}
 use Rattle.dz_tree.specs.Walk.{Tree, End, ends_of, ends_in}
+use Rattle.dz_tree.proofs.Certifying.{answer_certified}
 use Rattle.dz_zeros.specs.Laws.{ZeroSets}
 use Rattle.dz_zeros.specs.Solves.{HasValueZero, Solves, SolvesState}
 use Rattle.dz_zeros.proofs.Meaning.{Meaning, Vanishes, Differs}
@@ -161,7 +162,7 @@ module _ (r : RankingValue) {E : Type 0} {o : Operations E} (laws : DomainLaws o
 -- the three laws
 pub zero_sets : {E : Type 0} (r : RankingValue) (o : Operations E) → DomainLaws o → (c : Coordinates E) → IsPoint o c → FitsSignature r.signature c → ZeroSets r o c
 zero_sets r o laws c point fits = record {
-  of_tree = tree_solutions r laws point fits;
+  of_tree = λ system tree over h. tree_solutions r laws point fits system tree over (answer_certified (setting_of r) system tree h);
   of_closed = closed_solutions r laws point fits;
   of_run = run_solutions r laws point fits;
 }

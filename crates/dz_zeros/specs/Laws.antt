@@ -1,5 +1,5 @@
 -- The theorem of zero sets: trees, closed states, and runs to zero, at a point.
-use Rattle.std.specs.Prelude.{◌≡◌, ◌↔◌, true, [], List, Ok, IsOk, ℕ}
+use Rattle.std.specs.Prelude.{◌≡◌, ◌↔◌, true, [], List, Ok, ℕ}
 use Rattle.dz_algebra.specs.Domain.{Operations}
 use Rattle.dz_algebra.specs.Polynomial.{Polynomial}
 use Rattle.dz_rank.specs.Rankings.{RankingValue}
@@ -9,10 +9,11 @@ use Rattle.dz_domain.specs.Point.{Coordinates}
 use Rattle.dz_diff.specs.Lists.{SomeOf}
 use Rattle.dz_diff.specs.Operations.{setting_of}
 use Rattle.dz_diff.specs.State.{State}
-use Rattle.dz_diff.specs.Root.{System, is_closed}
+use Rattle.dz_tree.specs.Root.{System, is_closed}
 use Rattle.dz_step.specs.declared.Role.TheVariants.{Free}
 use Rattle.dz_step.specs.declared.Step.{Step}
 use Rattle.dz_step.specs.Run.{run}
+use Rattle.dz_tree.specs.Certified.{IsCertified}
 use Rattle.dz_tree.specs.Walk.{Tree, ends_of, ends_in}
 use Rattle.dz_diff.specs.Over.{AreOver, IsOver}
 use Rattle.dz_zeros.specs.Solves.{HasValueZero, Solves, SolvesState}
@@ -21,7 +22,7 @@ use Rattle.dz_zeros.specs.Solves.{HasValueZero, Solves, SolvesState}
 pub record ZeroSets {E : Type 0} (r : RankingValue) (o : Operations E) (c : Coordinates E) : Type 0 where
   -- the point solves a system exactly when it solves the state at some end of a certified tree for it
   pub of_tree : (system : System) (tree : Tree) → AreOver r system.equations system.inequations
-      → IsOk (ends_of (setting_of r) system tree)
+      → IsCertified (setting_of r) system tree
       → Solves o c system.equations system.inequations
       ↔ SomeOf (λ e. SolvesState o c e.state) (ends_in (ends_of (setting_of r) system tree))
   -- it solves no closed state

@@ -1,2 +1,3 @@
 pub mod Solves
 pub mod Laws
+pub mod Runs

@@ -4,3 +4,6 @@
 #![tactic(auto)]
 
 pub mod laws;
+mod zeros;
+
+pub use zeros::{run_to_zero, zero_sets};

@@ -7,8 +7,8 @@ use Rattle.dz_terms.specs.Terms.{times_power}
 use Rattle.dz_step.proofs.StepParts.{at_least_one, divides_first, divides_second, left_refused, right_refused, rest_refused, result_is}
 use Rattle.dz_step.proofs.reducing.reduced.Goals as goal
 
-pub quotient_times-requires-clause-positive : goal.quotient_times-requires-clause-positive
-quotient_times-requires-clause-positive c =
+pub quotient_by-factor-requires-clause-positive : goal.quotient_by-factor-requires-clause-positive
+quotient_by-factor-requires-clause-positive c =
     let r = c.args.ranking.now in
     let f = c.args.f.now.terms.items in
     let d = degree (ranking_cmp r) c.args.v f in
@@ -16,8 +16,8 @@ quotient_times-requires-clause-positive c =
     let k : c.common_content-k.result ≡ gcd (content c.args.m.terms.items) (content c.in_ok-top.top.terms.items) = c.common_content-k.ensures ∙ ap₂ (λ a b. gcd (content a) (content b)) c.as_slice.ensures.value c.as_slice-2.ensures.value in
     at_least_one r f c.args.q.now.terms.items c.args.m.terms.items c.args.v c.args.e c.in_ok-top.top.terms.items c.common_content-k.result top k c.requires.f.keepable.canonical c.requires.occurs
 
-pub quotient_times-requires-clause-divides : goal.quotient_times-requires-clause-divides
-quotient_times-requires-clause-divides c =
+pub quotient_by-factor-requires-clause-divides : goal.quotient_by-factor-requires-clause-divides
+quotient_by-factor-requires-clause-divides c =
     let r = c.args.ranking.now in
     let f = c.args.f.now.terms.items in
     let d = degree (ranking_cmp r) c.args.v f in
@@ -25,8 +25,8 @@ quotient_times-requires-clause-divides c =
     let k : c.common_content-k.result ≡ gcd (content c.args.m.terms.items) (content c.in_ok-top.top.terms.items) = c.common_content-k.ensures ∙ ap₂ (λ a b. gcd (content a) (content b)) c.as_slice.ensures.value c.as_slice-2.ensures.value in
     divides_first c.args.m.terms.items c.in_ok-top.top.terms.items c.common_content-k.result k
 
-pub quotient_times-requires-2-clause-positive : goal.quotient_times-requires-2-clause-positive
-quotient_times-requires-2-clause-positive c =
+pub quotient_by-shift-requires-clause-positive : goal.quotient_by-shift-requires-clause-positive
+quotient_by-shift-requires-clause-positive c =
     let r = c.args.ranking.now in
     let f = c.args.f.now.terms.items in
     let d = degree (ranking_cmp r) c.args.v f in
@@ -34,8 +34,8 @@ quotient_times-requires-2-clause-positive c =
     let k : c.common_content-k.result ≡ gcd (content c.args.m.terms.items) (content c.in_ok-top.top.terms.items) = c.common_content-k.ensures ∙ ap₂ (λ a b. gcd (content a) (content b)) c.as_slice.ensures.value c.as_slice-2.ensures.value in
     at_least_one r f c.args.q.now.terms.items c.args.m.terms.items c.args.v c.args.e c.in_ok-top.top.terms.items c.common_content-k.result top k c.requires.f.keepable.canonical c.requires.occurs
 
-pub quotient_times-requires-2-clause-divides : goal.quotient_times-requires-2-clause-divides
-quotient_times-requires-2-clause-divides c =
+pub quotient_by-shift-requires-clause-divides : goal.quotient_by-shift-requires-clause-divides
+quotient_by-shift-requires-clause-divides c =
     let r = c.args.ranking.now in
     let f = c.args.f.now.terms.items in
     let d = degree (ranking_cmp r) c.args.v f in
@@ -51,7 +51,7 @@ returns-in_err-left-clause-refused c =
     let top : c.in_ok-top.top.terms.items ≡ times_power (ranking_cmp r) c.args.v (d - c.args.e) (coefficient_of (ranking_cmp r) c.args.v d f) = c.in_ok-top.ensures.terms ∙ ap (λ n. times_power (ranking_cmp r) c.args.v (n - c.args.e) (coefficient_of (ranking_cmp r) c.args.v n f)) c.degree_of-d.ensures in
     let k : c.common_content-k.result ≡ gcd (content c.args.m.terms.items) (content c.in_ok-top.top.terms.items) = c.common_content-k.ensures ∙ ap₂ (λ a b. gcd (content a) (content b)) c.as_slice.ensures.value c.as_slice-2.ensures.value in
     let y = err_from_is_err_and c.from_residual-in_err-left.result c.from_residual-in_err-left.ensures.1 in
-    rw (y.1, y.2) (left_refused r f c.args.q.now.terms.items c.args.m.terms.items c.args.v c.args.e c.in_ok-top.top.terms.items c.common_content-k.result top k _ c.in_err-left.ensures.refused)
+    rw (y.1, y.2) (left_refused r f c.args.q.now.terms.items c.args.m.terms.items c.args.v c.args.e c.in_ok-top.top.terms.items c.common_content-k.result top k c.quotient_by-factor.result.terms.items c.quotient_by-shift.result.terms.items c.quotient_by-factor.ensures.terms c.quotient_by-shift.ensures.terms _ c.in_err-left.ensures.refused)
 
 pub returns-in_err-right-clause-refused : goal.returns-in_err-right-clause-refused
 returns-in_err-right-clause-refused c =
@@ -61,7 +61,7 @@ returns-in_err-right-clause-refused c =
     let top : c.in_ok-top.top.terms.items ≡ times_power (ranking_cmp r) c.args.v (d - c.args.e) (coefficient_of (ranking_cmp r) c.args.v d f) = c.in_ok-top.ensures.terms ∙ ap (λ n. times_power (ranking_cmp r) c.args.v (n - c.args.e) (coefficient_of (ranking_cmp r) c.args.v n f)) c.degree_of-d.ensures in
     let k : c.common_content-k.result ≡ gcd (content c.args.m.terms.items) (content c.in_ok-top.top.terms.items) = c.common_content-k.ensures ∙ ap₂ (λ a b. gcd (content a) (content b)) c.as_slice.ensures.value c.as_slice-2.ensures.value in
     let y = err_from_is_err_and c.from_residual-in_err-right.result c.from_residual-in_err-right.ensures.1 in
-    rw (y.1, y.2) (right_refused r f c.args.q.now.terms.items c.args.m.terms.items c.args.v c.args.e c.in_ok-top.top.terms.items c.common_content-k.result top k _ c.in_ok-left.left.terms.items c.in_ok-left.ensures.ok c.in_err-right.ensures.refused)
+    rw (y.1, y.2) (right_refused r f c.args.q.now.terms.items c.args.m.terms.items c.args.v c.args.e c.in_ok-top.top.terms.items c.common_content-k.result top k c.quotient_by-factor.result.terms.items c.quotient_by-shift.result.terms.items c.quotient_by-factor.ensures.terms c.quotient_by-shift.ensures.terms _ c.in_ok-left.left.terms.items c.in_ok-left.ensures.ok c.in_err-right.ensures.refused)
 
 pub returns-in_err-rest-clause-refused : goal.returns-in_err-rest-clause-refused
 returns-in_err-rest-clause-refused c =
@@ -71,7 +71,7 @@ returns-in_err-rest-clause-refused c =
     let top : c.in_ok-top.top.terms.items ≡ times_power (ranking_cmp r) c.args.v (d - c.args.e) (coefficient_of (ranking_cmp r) c.args.v d f) = c.in_ok-top.ensures.terms ∙ ap (λ n. times_power (ranking_cmp r) c.args.v (n - c.args.e) (coefficient_of (ranking_cmp r) c.args.v n f)) c.degree_of-d.ensures in
     let k : c.common_content-k.result ≡ gcd (content c.args.m.terms.items) (content c.in_ok-top.top.terms.items) = c.common_content-k.ensures ∙ ap₂ (λ a b. gcd (content a) (content b)) c.as_slice.ensures.value c.as_slice-2.ensures.value in
     let y = err_from_is_err_and c.from_residual-in_err-rest.result c.from_residual-in_err-rest.ensures.1 in
-    rw (y.1, y.2) (rest_refused r f c.args.q.now.terms.items c.args.m.terms.items c.args.v c.args.e c.in_ok-top.top.terms.items c.common_content-k.result top k _ c.in_ok-left.left.terms.items c.in_ok-right.right.terms.items c.in_ok-left.ensures.ok c.in_ok-right.ensures.ok c.in_err-rest.ensures.refused)
+    rw (y.1, y.2) (rest_refused r f c.args.q.now.terms.items c.args.m.terms.items c.args.v c.args.e c.in_ok-top.top.terms.items c.common_content-k.result top k c.quotient_by-factor.result.terms.items c.quotient_by-shift.result.terms.items c.quotient_by-factor.ensures.terms c.quotient_by-shift.ensures.terms _ c.in_ok-left.left.terms.items c.in_ok-right.right.terms.items c.in_ok-left.ensures.ok c.in_ok-right.ensures.ok c.in_err-rest.ensures.refused)
 
 pub returns-clause-ok : goal.returns-clause-ok
 returns-clause-ok c =
@@ -80,4 +80,4 @@ returns-clause-ok c =
     let d = degree (ranking_cmp r) c.args.v f in
     let top : c.in_ok-top.top.terms.items ≡ times_power (ranking_cmp r) c.args.v (d - c.args.e) (coefficient_of (ranking_cmp r) c.args.v d f) = c.in_ok-top.ensures.terms ∙ ap (λ n. times_power (ranking_cmp r) c.args.v (n - c.args.e) (coefficient_of (ranking_cmp r) c.args.v n f)) c.degree_of-d.ensures in
     let k : c.common_content-k.result ≡ gcd (content c.args.m.terms.items) (content c.in_ok-top.top.terms.items) = c.common_content-k.ensures ∙ ap₂ (λ a b. gcd (content a) (content b)) c.as_slice.ensures.value c.as_slice-2.ensures.value in
-    result_is r f c.args.q.now.terms.items c.args.m.terms.items c.args.v c.args.e c.in_ok-top.top.terms.items c.common_content-k.result top k c.in_ok-left.left.terms.items c.in_ok-right.right.terms.items c.in_ok-rest.rest.terms.items c.into_norm.result.terms.items c.in_ok-left.ensures.ok c.in_ok-right.ensures.ok c.in_ok-rest.ensures.ok c.into_norm.ensures.terms
+    result_is r f c.args.q.now.terms.items c.args.m.terms.items c.args.v c.args.e c.in_ok-top.top.terms.items c.common_content-k.result top k c.quotient_by-factor.result.terms.items c.quotient_by-shift.result.terms.items c.quotient_by-factor.ensures.terms c.quotient_by-shift.ensures.terms c.in_ok-left.left.terms.items c.in_ok-right.right.terms.items c.in_ok-rest.rest.terms.items c.in_ok-left.ensures.ok c.in_ok-right.ensures.ok c.in_ok-rest.ensures.ok

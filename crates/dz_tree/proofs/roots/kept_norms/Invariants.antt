@@ -1,7 +1,7 @@
 use Rattle.std.proofs.Common.{◌≡◌, [], drop}
 use Rattle.dz_poly.specs.Books.{IsKept}
 use Rattle.dz_terms.specs.Ranked.{symbols_under}
-use Rattle.dz_diff.specs.Root.{kept_norms}
+use Rattle.dz_tree.specs.Root.{kept_norms}
 use Rattle.dz_diff.specs.States.{LiveAll, polynomials}
 use Rattle.dz_tree.specs.Members.{is_left_out}
 use Rattle.dz_tree.proofs.roots.kept_norms.Given as goal

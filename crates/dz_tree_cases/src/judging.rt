@@ -1,0 +1,134 @@
+//! What is told of the tree of a case.
+
+ghost use Rattle.std.specs.Prelude.{◌≡◌, IfOk};
+ghost use Rattle.dz_rank.specs.Rankings.{IsRanking};
+ghost use Rattle.dz_diff.specs.Operations.{setting_of};
+ghost use Rattle.dz_syntax.specs.Systems.{HasExpressions, tree_of};
+ghost use Rattle.dz_tree.specs.Systems.{IsSystemIn, system_in};
+ghost use Rattle.dz_tree.specs.TreeLines.{verdict_as};
+ghost use Rattle.dz_tree.specs.Walk.{verdict_of};
+
+use crate::alone::{Alone, told_alone};
+use crate::lines::lines;
+use crate::systems::system_of;
+use crate::words::number;
+use dz_poly::{Book, PolyStop};
+use dz_rank::Ranking;
+use dz_syntax::{Form, SyntaxKind, SystemTree, read_system};
+use dz_tree::laws::trees_are_judged_by_line;
+use dz_tree::{System, Tree, Verdict, chains, check, have_operators_of};
+use std::alloc::{AllocError, Global};
+
+/// What is told of a case.
+#[derive(Clone, Copy, Debug, PartialEq, Eq)]
+pub(crate) enum Judgement {
+    /// The lines form no tree, or the budget is too great.
+    NoTree,
+    /// What is told of the tree, with the number of its chains, and what its first line is told
+    /// alone.
+    Checked(Verdict, usize, Alone),
+}
+
+/// Why a case is not judged.
+#[derive(Clone, Copy, Debug, PartialEq, Eq)]
+pub(crate) enum Stop {
+    Memory,
+    /// It is no case: a line is missing, or is not what stands there, or the system passes a limit.
+    NoCase,
+}
+
+impl From<AllocError> for Stop {
+    fn from(_error: AllocError) -> Stop {
+        Stop::Memory
+    }
+}
+
+impl From<PolyStop> for Stop {
+    fn from(stop: PolyStop) -> Stop {
+        match stop {
+            PolyStop::Memory => Stop::Memory,
+            _ => Stop::NoCase,
+        }
+    }
+}
+
+/// The system of a case.
+fn system_tree(alloc: Global, text: &[u8]) -> Result<SystemTree, Stop>
+    ensures ranking { IfOk result (λ t. IsRanking
+        (record { signature = (tree_of t).signature; blocks = (tree_of t).blocks })) }
+    ensures expressions { IfOk result (λ t. HasExpressions (tree_of t)) }
+{
+    match read_system(alloc, text, Form::Plain) {
+        Ok(tree) => Ok(tree),
+        Err(fault) => match fault.kind {
+            SyntaxKind::Memory => Err(Stop::Memory),
+            _ => Err(Stop::NoCase),
+        },
+    }
+}
+
+/// The number of chains of a tree with this verdict; none where it is rejected.
+fn chain_count(
+    alloc: Global,
+    book: &mut Book,
+    system: &System,
+    tree: &Tree,
+    verdict: Verdict,
+) -> Result<usize, AllocError>
+    requires system { IsSystemIn book.old system.now }
+    requires verdict { verdict_as verdict ≡ verdict_of (setting_of book.old.ranking)
+        (system_in book.old system.now) tree.now }
+{
+    tree.opened();
+    trees_are_judged_by_line();
+    match verdict {
+        Verdict::Rejected { .. } => Ok(0),
+        Verdict::Accepted => Ok(chains(alloc, book, system, tree)?.len()),
+        Verdict::Partial => Ok(chains(alloc, book, system, tree)?.len()),
+    }
+}
+
+/// What is told of the tree with a budget and some lines.
+fn tree_told(
+    alloc: Global,
+    case: &SystemTree,
+    budget: u32,
+    texts: &[&[u8]],
+) -> Result<Judgement, Stop>
+    requires ranking { IsRanking
+        (record { signature = (tree_of case.now).signature; blocks = (tree_of case.now).blocks }) }
+    requires expressions { HasExpressions (tree_of case.now) }
+{
+    let Ok(ranking) = Ranking::new(alloc, case.signature, &case.blocks) else {
+        return Err(Stop::Memory);
+    };
+    let mut book = Book::new(alloc, ranking);
+    let Some(system) = system_of(alloc, &mut book, case)? else {
+        return Err(Stop::NoCase);
+    };
+    let Some(lines) = lines(alloc, &case.names, texts)? else {
+        return Err(Stop::NoCase);
+    };
+    let Some(tree) = Tree::new(budget, lines) else {
+        return Ok(Judgement::NoTree);
+    };
+    if !have_operators_of(case.signature.independents, tree.lines()) {
+        return Err(Stop::NoCase);
+    }
+    let alone = told_alone(alloc, &mut book, &system, &tree)?;
+    let verdict = check(alloc, &mut book, &system, &tree)?;
+    let chains = chain_count(alloc, &mut book, &system, &tree, verdict)?;
+    Ok(Judgement::Checked(verdict, chains, alone))
+}
+
+/// What is told of a case, by the lines after its name.
+pub(crate) fn judge(alloc: Global, texts: &[&[u8]]) -> Result<Judgement, Stop> {
+    if texts.len() < 2 {
+        return Err(Stop::NoCase);
+    }
+    let case = system_tree(alloc, texts[0])?;
+    let Some(budget) = number(texts[1]) else {
+        return Err(Stop::NoCase);
+    };
+    tree_told(alloc, &case, budget, &texts[2..])
+}

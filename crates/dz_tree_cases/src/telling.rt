@@ -1,0 +1,124 @@
+//! The lines that are written, one for each case.
+
+use crate::alone::Alone;
+use crate::judging::{Judgement, Stop, judge};
+use dz_poly::Limit;
+use dz_tree::{Rule, Verdict};
+use itoa::Buffer;
+use std::alloc::{AllocError, Global};
+
+/// The name of a rule.
+fn rule_name(rule: Rule) -> &'static [u8] {
+    match rule {
+        Rule::Place => b"place",
+        Rule::Step => b"step",
+        Rule::Large => b"large",
+        Rule::Wide => b"wide",
+        Rule::Same => b"same",
+        Rule::Weight => b"weight",
+        Rule::Pair => b"pair",
+        Rule::End => b"end",
+        Rule::Symbol => b"symbol",
+        Rule::Fork => b"fork",
+        Rule::Closed => b"closed",
+        Rule::Leader => b"leader",
+        Rule::Autoreduced => b"autoreduced",
+        Rule::Multiplier => b"multiplier",
+        Rule::Inequation => b"inequation",
+        Rule::Pairs => b"pairs",
+        Rule::Coherence => b"coherence",
+        Rule::Reason => b"reason",
+    }
+}
+
+/// The name of a limit.
+fn limit_name(limit: Limit) -> &'static [u8] {
+    match limit {
+        Limit::Order => b"order",
+        Limit::Exponent => b"exponent",
+        Limit::Symbols => b"symbols",
+        Limit::Terms => b"terms",
+        Limit::Polynomials => b"polynomials",
+        Limit::Node => b"node",
+        Limit::Splits => b"splits",
+    }
+}
+
+/// Appends a number.
+fn write_number(into: &mut Vec<u8>, number: usize) -> Result<(), AllocError> {
+    let mut buffer = Buffer::new();
+    into.extend_from_slice(buffer.format(number).as_bytes())
+}
+
+/// Appends a verdict, with the number of chains.
+fn write_verdict(into: &mut Vec<u8>, verdict: Verdict, chains: usize) -> Result<(), AllocError> {
+    match verdict {
+        Verdict::Accepted => {
+            into.extend_from_slice(b"accepted, chains ")?;
+            write_number(into, chains)
+        }
+        Verdict::Partial => {
+            into.extend_from_slice(b"partial, chains ")?;
+            write_number(into, chains)
+        }
+        Verdict::Rejected { place, rule } => {
+            into.extend_from_slice(b"rejected ")?;
+            write_number(into, place)?;
+            into.extend_from_slice(b" ")?;
+            into.extend_from_slice(rule_name(rule))
+        }
+    }
+}
+
+/// Appends what the first line is told alone, if it is told something.
+fn write_alone(into: &mut Vec<u8>, alone: Alone) -> Result<(), AllocError> {
+    match alone {
+        Alone::Nothing => Ok(()),
+        Alone::Holds => into.extend_from_slice(b"; alone holds"),
+        Alone::Wide => into.extend_from_slice(b"; alone wide"),
+        Alone::Large(limit) => {
+            into.extend_from_slice(b"; alone large ")?;
+            into.extend_from_slice(limit_name(limit))
+        }
+        Alone::Broken(rule) => {
+            into.extend_from_slice(b"; alone ")?;
+            into.extend_from_slice(rule_name(rule))
+        }
+    }
+}
+
+/// Appends the line of a case; none where there is no line of one.
+fn tell(alloc: Global, case: &[&[u8]], into: &mut Vec<u8>) -> Result<(), AllocError> {
+    let Some((name, rest)) = case.split_first() else {
+        return Ok(());
+    };
+    into.extend_from_slice(name)?;
+    into.extend_from_slice(b": ")?;
+    match judge(alloc, rest) {
+        Ok(Judgement::Checked(verdict, chains, alone)) => {
+            write_verdict(into, verdict, chains)?;
+            write_alone(into, alone)?;
+        }
+        Ok(Judgement::NoTree) => into.extend_from_slice(b"no tree")?,
+        Err(Stop::NoCase) => into.extend_from_slice(b"no case")?,
+        Err(Stop::Memory) => return Err(AllocError),
+    }
+    into.extend_from_slice(b"\n")
+}
+
+/// Appends the lines of all cases of an input.
+pub(crate) fn tell_all(alloc: Global, text: &[u8], into: &mut Vec<u8>) -> Result<(), AllocError> {
+    let mut case: Vec<&[u8]> = Vec::new(alloc);
+    for line in text.split(|byte| *byte == b'\n') {
+        if line.starts_with(b"#") {
+            continue;
+        }
+        if !line.is_empty() {
+            case.push(line)?;
+            continue;
+        }
+        tell(alloc, &case, into)?;
+        case.clear();
+    }
+    Ok(())
+}

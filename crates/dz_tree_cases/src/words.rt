@@ -1,0 +1,37 @@
+//! The words of a line.
+
+/// The text before the first byte of a kind, and the text behind it; all and nothing where there is
+/// no such byte.
+pub(crate) fn split_at_first(text: &[u8], mark: u8) -> (&[u8], &[u8]) {
+    for k in 0..text.len() {
+        if text[k] == mark {
+            return (&text[..k], &text[k + 1..]);
+        }
+    }
+    (text, b"")
+}
+
+/// The number that fills a text; `None` where it is none, or above the greatest `u32`.
+pub(crate) fn number(text: &[u8]) -> Option<u32> {
+    if text.is_empty() {
+        return None;
+    }
+    let mut value = 0u32;
+    for k in 0..text.len() {
+        let digit = text[k].checked_sub(b'0')?;
+        if digit > 9 {
+            return None;
+        }
+        value = value.checked_mul(10)?.checked_add(digit as u32)?;
+    }
+    Some(value)
+}
+
+/// The place that fills a text.
+pub(crate) fn place(text: &[u8]) -> Option<u16> {
+    let value = number(text)?;
+    if value > 65_535 {
+        return None;
+    }
+    Some(value as u16)
+}
