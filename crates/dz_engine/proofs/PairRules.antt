@@ -20,7 +20,7 @@ use Rattle.dz_step.specs.declared.Step.{Step}
 use Rattle.dz_step.specs.Step.{Stop}
 use Rattle.dz_step.specs.Run.{Ran, run}
 use Rattle.dz_step.specs.FullRun.{Course, finished, stopped, passed, full_run, next_step, admits}
-use Rattle.dz_step.proofs.FullRuns.{full_run_is_run}
+use Rattle.dz_step.proofs.FullRuns.{full_run_is_run, full_run_low}
 use Rattle.dz_pair.specs.Pair.{is_pair, common, delta_answer, pairs_with, pairs_from, critical_pairs}
 use Rattle.dz_tree.specs.declared.Rule.{Rule}
 use Rattle.dz_tree.specs.declared.Rule.TheVariants as rules
@@ -35,7 +35,6 @@ use Rattle.dz_tree.proofs.KeptMembers.{all_give}
 use Rattle.dz_engine.specs.Order.{line_alone, open_line, affordable, with_evidence, evidence, after_course, delta_at, after_delta, pairs_next}
 use Rattle.dz_engine.specs.Resting.{EntryHolds}
 use Rattle.dz_engine.proofs.EasyRules.{and_is, needs_is, given_is, holds_needs, open_holds}
-use Rattle.dz_step.proofs.Courses.{full_run_low}
 use Rattle.dz_engine.proofs.RunRules.{StepsGo, full_run_fits, full_run_stopped, full_run_passed, is_not}
 
 -- ---- critical pairs rise

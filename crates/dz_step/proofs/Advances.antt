@@ -1,5 +1,5 @@
 -- How a full run that has come so far goes on.
-use Rattle.std.proofs.Common.{◌≡◌, ◌≤◌, ◌+◌, ◌-◌, ◌++◌, ◌∙◌, ℕ, zero, suc, List, [], ◌∷◌, length, refl, sym, ap, ap₂, subst, arith, Result, Ok, Err}
+use Rattle.std.proofs.Common.{◌≡◌, ◌≤◌, ◌+◌, ◌-◌, ◌++◌, ◌∙◌, ℕ, zero, suc, List, [], ◌∷◌, length, refl, sym, ap, ap₂, subst, arith}
 use Rattle.dz_algebra.specs.Norm.{norm}
 use Rattle.dz_algebra.specs.Polynomial.{Polynomial}
 use Rattle.dz_algebra.specs.Size.{wide, large}
@@ -14,43 +14,42 @@ use Rattle.dz_step.specs.declared.attempts.AttemptStop.{AttemptStop}
 use Rattle.dz_step.specs.declared.attempts.AttemptStop.TheVariants.{Memory, Wide, Large, Spent}
 use Rattle.dz_step.specs.declared.attempts.Progress.{Progress}
 use Rattle.dz_step.specs.declared.attempts.Turn.TheVariants.{Taken, Stopped}
-use Rattle.dz_step.specs.Attempts.{IsAttemptOf, IsPrefix, steps_of}
+use Rattle.dz_step.specs.Attempts.{IsAttemptOf, IsPrefix, steps_taken}
 use Rattle.dz_step.specs.FullRun.{passed, full_run, full_run_from}
-use Rattle.dz_step.specs.Step.{Stop, refused, step_in}
-use Rattle.dz_step.specs.Turns.{IsAt, IsTurn, Passes}
-use Rattle.dz_step.proofs.FullCourses.{goes_on, refused_at, so_far, spent_at}
+use Rattle.dz_step.specs.Step.{refused}
+use Rattle.dz_step.specs.Turns.{IsAt, IsTurn}
+use Rattle.dz_step.proofs.Courses.{so_far}
+use Rattle.dz_step.proofs.FullCourses.{goes_on, refused_at, spent_at}
 
 module _ (r : RankingValue) (s : State) (role : Role) (budget : ℕ) (f : Polynomial Symbol) (p : Progress) where
-  -- its steps so far are the first of the full run
-  pub cut_short : IsAt r s role budget f p → (run : List Step) → run ≡ p.run → IsPrefix run (steps_of (full_run (setting_of r) s role budget f))
+  -- its steps so far are the first of those that the full run takes
+  pub cut_short : IsAt r s role budget f p → (run : List Step) → run ≡ p.run → IsPrefix run (steps_taken (full_run (setting_of r) s role budget f))
   cut_short at run e =
-      subst (λ l. IsPrefix l (steps_of (full_run (setting_of r) s role budget f))) (sym e)
-      (subst (λ c. IsPrefix p.run (steps_of c)) (sym at.3) (so_far (setting_of r) s role budget (suc at.0) p.run p.rest.terms.items (budget - p.left)))
+      subst (λ l. IsPrefix l (steps_taken (full_run (setting_of r) s role budget f))) (sym e)
+      (subst (λ c. IsPrefix p.run (steps_taken c)) (sym at.3) (so_far (setting_of r) s role budget (suc at.0) p.run p.rest.terms.items (budget - p.left) (omega arith) (omega (arith, at.1, at.2))))
 
   -- a turn that stops it
-  pub stops : IsAt r s role budget f p → (stop : AttemptStop) → IsTurn r s role p.rest.terms.items p.left (Stopped stop) → IsAttemptOf (full_run (setting_of r) s role budget f) p.run stop
+  pub stops : IsAt r s role budget f p → (stop : AttemptStop) → IsTurn r s role p.rest.terms.items (Stopped stop) → IsAttemptOf (full_run (setting_of r) s role budget f) p.run stop
   stops at Memory t = cut_short at p.run refl
   stops at (Wide step) t = at.3 ∙ refused_at (setting_of r) s role budget p.run p.rest.terms.items (budget - p.left) at.0 step (refused wide) t.0 t.1
   stops at (Large limit step) t = at.3 ∙ refused_at (setting_of r) s role budget p.run p.rest.terms.items (budget - p.left) at.0 step (refused (large limit)) t.0 t.1
-  stops at (Spent step) t = by_answer (step_in (setting_of r) s role p.rest.terms.items step) refl t.1
-    where
-      by_answer : (q : Result (Polynomial Symbol) Stop) → step_in (setting_of r) s role p.rest.terms.items step ≡ q → Passes p.left q → full_run (setting_of r) s role budget f ≡ passed (p.run ++ step ∷ [])
-      by_answer (Ok x) e l = at.3 ∙ spent_at (setting_of r) s role budget p.run p.rest.terms.items (budget - p.left) at.0 step x t.0 e (omega (arith, l, at.2))
-      by_answer (Err stop) e l = absurd l
+  stops at (Spent step) t = absurd t
+
+  -- a step that passes what is left
+  pub spends : IsAt r s role budget f p → (step : Step) (x : Entry) → IsTurn r s role p.rest.terms.items (Taken step x) → p.left ≤ length x.terms.items → full_run (setting_of r) s role budget f ≡ passed (p.run ++ step ∷ [])
+  spends at step x t l = at.3 ∙ spent_at (setting_of r) s role budget p.run p.rest.terms.items (budget - p.left) at.0 step x.terms.items t.0 t.1 (omega (arith, l, at.2))
 
   -- a turn that takes a step
-  pub moved : IsAt r s role budget f p → (step : Step) (x : Entry) (run : List Step) (n : ℕ) → IsTurn r s role p.rest.terms.items p.left (Taken step x) → run ≡ p.run ++ step ∷ [] → n ≡ length x.terms.items
-      → IsAt r s role budget f (record { run = run; rest = x; left = p.left - (1 + n) })
-  moved at step x run n t e m = by_rounds at.0 at.1 at.3
+  pub moved : IsAt r s role budget f p → (step : Step) (x : Entry) (new : Progress) → IsTurn r s role p.rest.terms.items (Taken step x) → new.run ≡ p.run ++ step ∷ [] → new.rest ≡ x → new.left + 1 + length x.terms.items ≡ p.left
+      → IsAt r s role budget f new
+  moved at step x new t e h m = by_rounds at.0 at.1 at.3
     where
-      by_rounds : (k : ℕ) → p.left ≤ k → full_run (setting_of r) s role budget f ≡ full_run_from (setting_of r) s role budget (suc k) p.run p.rest.terms.items (budget - p.left)
-          → IsAt r s role budget f (record { run = run; rest = x; left = p.left - (1 + n) })
-      by_rounds zero l g = absurd (let h = t.2 in omega (arith, l, h))
+      by_rounds : (k : ℕ) → p.left ≤ k → full_run (setting_of r) s role budget f ≡ full_run_from (setting_of r) s role budget (suc k) p.run p.rest.terms.items (budget - p.left) → IsAt r s role budget f new
+      by_rounds zero l g = absurd (omega (arith, l, m))
       by_rounds (suc k) l g =
-          let h = t.2 in
-          let low : budget - p.left + 1 + length x.terms.items ≤ budget = omega (arith, h, at.2) in
-          let count : budget - p.left + 1 + length x.terms.items ≡ budget - (p.left - (1 + n)) = omega (arith, h, at.2, m) in
-          (k, omega (arith, l, h, m), omega (arith, at.2), g ∙ goes_on (setting_of r) s role budget p.run p.rest.terms.items (budget - p.left) (suc k) step x.terms.items t.0 t.1 low ∙ ap₂ (λ (l : List Step) (c : ℕ). full_run_from (setting_of r) s role budget (suc k) l x.terms.items c) (sym e) count)
+          let low : budget - p.left + 1 + length x.terms.items ≤ budget = omega (arith, m, at.2) in
+          let count : budget - p.left + 1 + length x.terms.items ≡ budget - new.left = omega (arith, at.2, m) in
+          (k, omega (arith, l, m), omega (arith, at.2, m), g ∙ goes_on (setting_of r) s role budget p.run p.rest.terms.items (budget - p.left) (suc k) step x.terms.items t.0 t.1 low ∙ ap₂ (λ (l : List Step) (c : ℕ). full_run_from (setting_of r) s role budget (suc k) l x.terms.items c) (sym e) count ∙ ap (λ (y : Entry). full_run_from (setting_of r) s role budget (suc k) new.run y.terms.items (budget - new.left)) (sym h))
 
 -- ---- the beginning
 -- a full run begins with the norm, and with all of its budget
@@ -69,4 +68,4 @@ begins r s role budget f x run e g =
 pub no_steps : (r : RankingValue) (s : State) (role : Role) (budget : ℕ) (f : Polynomial Symbol) (run : List Step) (stop : AttemptStop) → run ≡ [] → stop ≡ Memory → IsAttemptOf (full_run (setting_of r) s role budget f) run stop
 no_steps r s role budget f run stop e g =
     subst (λ x. IsAttemptOf (full_run (setting_of r) s role budget f) run x) (sym g)
-    (subst (λ l. IsPrefix l (steps_of (full_run (setting_of r) s role budget f))) (sym e) (steps_of (full_run (setting_of r) s role budget f), refl))
+    (subst (λ l. IsPrefix l (steps_taken (full_run (setting_of r) s role budget f))) (sym e) (steps_taken (full_run (setting_of r) s role budget f), refl))

@@ -1,6 +1,6 @@
 -- Full runs, one turn after the other.
 use Rattle.std.specs.Prelude.{IfErr, IfOk}
-use Rattle.std.proofs.Common.{◌≡◌, ◌≢◌, inl, inr, ◌<◌, ◌≤◌, ◌+◌, ◌++◌, ◌∙◌, ℕ, zero, suc, Bool, true, false, cond, nat_lt, List, [], ◌∷◌, length, refl, sym, ap, subst, arith, Result, Ok, Err, Option, Some, None, append-nil, append_assoc}
+use Rattle.std.proofs.Common.{◌≡◌, ◌≢◌, inl, inr, ◌<◌, ◌≤◌, ◌+◌, ◌++◌, ◌∙◌, ℕ, suc, Bool, true, false, cond, nat_lt, List, [], ◌∷◌, length, refl, sym, ap, arith, Result, Ok, Err, Option, Some, None}
 use Rattle.std.proofs.lemmas.Bool.Decides.{nat_tests}
 use Rattle.std.proofs.lemmas.List.Elements.{All-head, All-tail}
 use Rattle.dz_algebra.specs.Polynomial.{Polynomial, PolynomialIn}
@@ -16,7 +16,6 @@ use Rattle.dz_diff.proofs.Answers.{both}
 use Rattle.dz_diff.proofs.LeaderDerivations.{IsRegular}
 use Rattle.dz_step.specs.declared.Role.{Role}
 use Rattle.dz_step.specs.declared.Step.{Step}
-use Rattle.dz_step.specs.Attempts.{steps_of, IsPrefix}
 use Rattle.dz_step.specs.FullRun.{Course, finished, stopped, passed, full_run_from, next_step, derivatives_of}
 use Rattle.dz_algebra.specs.Size.{wide, large}
 use Rattle.dz_poly.specs.Books.{BookValue, IsBook, Lives, polynomial}
@@ -31,15 +30,17 @@ use Rattle.dz_step.proofs.NextSteps.{FoundStep, Limited, found_first, in_derivat
 
 module _ (g : Setting) (s : State) (role : Role) (budget : ℕ) (done : List Step) (f : Polynomial Symbol) (count : ℕ) where
   -- a turn, by the next step and by its answer
-  abbrev after : ℕ → Step → Result (Polynomial Symbol) Stop → Course
+  abbrev pub after : ℕ → Step → Result (Polynomial Symbol) Stop → Course
   after rounds st (Err stop) = stopped (done ++ st ∷ []) stop
   after rounds st (Ok x) = cond (nat_lt budget (count + 1 + length x)) (passed (done ++ st ∷ [])) (full_run_from g s role budget rounds (done ++ st ∷ []) x (count + 1 + length x))
 
-  abbrev turned : ℕ → Option Step → Course
+  -- and by the next step alone
+  abbrev pub turned : ℕ → Option Step → Course
   turned rounds None = finished done f count
   turned rounds (Some st) = after rounds st (step_in g s role f st)
 
-  in_turns : (rounds : ℕ) → full_run_from g s role budget (suc rounds) done f count ≡ turned rounds (next_step g s role f)
+  -- a round of a full run is a turn
+  pub in_turns : (rounds : ℕ) → full_run_from g s role budget (suc rounds) done f count ≡ turned rounds (next_step g s role f)
   in_turns rounds = by_step (next_step g s role f)
     where
       by_answer : (st : Step) (q : Result (Polynomial Symbol) Stop) → (elim q as (λ _. Course) [
@@ -82,30 +83,6 @@ module _ (g : Setting) (s : State) (role : Role) (budget : ℕ) (done : List Ste
       let high : nat_lt budget (count + 1 + length x) ≡ true = grind (arith, nat_tests) in
       in_turns rounds ∙ ap (turned rounds) e ∙ ap (after rounds st) h
       ∙ ap (λ b. cond b (passed (done ++ st ∷ [])) (full_run_from g s role budget rounds (done ++ st ∷ []) x (count + 1 + length x))) high
-
--- the steps so far are the first of a full run
-pub so_far : (g : Setting) (s : State) (role : Role) (budget rounds : ℕ) (done : List Step) (f : Polynomial Symbol) (count : ℕ) → IsPrefix done (steps_of (full_run_from g s role budget rounds done f count))
-so_far g s role budget zero done f count = ([], append-nil done)
-so_far g s role budget (suc rounds) done f count =
-    subst (λ c. IsPrefix done (steps_of c)) (sym (in_turns g s role budget done f count rounds)) (by_step (next_step g s role f) (λ st x k. so_far g s role budget rounds (done ++ st ∷ []) x k))
-  where
-    further : (st : Step) (steps : List Step) → IsPrefix (done ++ st ∷ []) steps → IsPrefix done steps
-    further st steps p = (st ∷ p.0, sym (append_assoc done (st ∷ []) p.0) ∙ p.1)
-
-    by_test : (st : Step) (x : Polynomial Symbol) (b : Bool) → IsPrefix (done ++ st ∷ []) (steps_of (full_run_from g s role budget rounds (done ++ st ∷ []) x (count + 1 + length x)))
-        → IsPrefix done (steps_of (cond b (passed (done ++ st ∷ [])) (full_run_from g s role budget rounds (done ++ st ∷ []) x (count + 1 + length x))))
-    by_test st x true ih = (st ∷ [], refl)
-    by_test st x false ih = further st _ ih
-
-    by_answer : (st : Step) (q : Result (Polynomial Symbol) Stop) → ((x : Polynomial Symbol) (k : ℕ) → IsPrefix (done ++ st ∷ []) (steps_of (full_run_from g s role budget rounds (done ++ st ∷ []) x k)))
-        → IsPrefix done (steps_of (after g s role budget done f count rounds st q))
-    by_answer st (Err stop) ih = (st ∷ [], refl)
-    by_answer st (Ok x) ih = by_test st x (nat_lt budget (count + 1 + length x)) (ih x (count + 1 + length x))
-
-    by_step : (o : Option Step) → ((st : Step) (x : Polynomial Symbol) (k : ℕ) → IsPrefix (done ++ st ∷ []) (steps_of (full_run_from g s role budget rounds (done ++ st ∷ []) x k)))
-        → IsPrefix done (steps_of (turned g s role budget done f count rounds o))
-    by_step None ih = ([], append-nil done)
-    by_step (Some st) ih = by_answer st (step_in g s role f st) (ih st)
 
 -- ---- the step that is next
 module _ (r : RankingValue) (s : State) (role : Role) (f : Polynomial Symbol) (regular : PolynomialIn (IsRegular 4) f) (all_regular : AllOf (PolynomialIn (IsRegular 4)) s.equations) where

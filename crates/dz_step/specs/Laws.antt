@@ -1,5 +1,5 @@
 -- The laws of runs; the crate's law functions ask for their proofs.
-use Rattle.std.specs.Prelude.{◌≡◌, ◌≢◌, ◌≤◌, ◌<◌, ℕ, false, List, ◌∷◌, Ok, Err, Some}
+use Rattle.std.specs.Prelude.{◌≡◌, ◌≢◌, ◌≤◌, ◌<◌, ℕ, false, List, [], ◌∷◌, ◌++◌, Ok, Err, Some}
 use Rattle.std.specs.declared.cmp.Ordering.TheVariants.{Less}
 use Rattle.dz_algebra.specs.Norm.{norm}
 use Rattle.dz_algebra.specs.Parts.{degree, leader}
@@ -14,9 +14,16 @@ use Rattle.dz_diff.specs.Over.{IsOver}
 use Rattle.dz_diff.specs.State.{State, at_place}
 use Rattle.dz_step.specs.declared.Role.{Role}
 use Rattle.dz_step.specs.declared.Step.{Step}
-use Rattle.dz_step.specs.Step.{no_step, step_in}
+use Rattle.dz_step.specs.Step.{Stop, no_step, step_in}
 use Rattle.dz_step.specs.Run.{Ran, run}
-use Rattle.dz_step.specs.FullRun.{admits, finished, passed, full_run, next_step}
+use Rattle.dz_step.specs.FullRun.{admits, finished, stopped, passed, full_run, next_step}
+
+-- a full run on f within a budget takes these steps, a run within the budget, and then the step st is next
+pub record RunsUpTo (g : Setting) (s : State) (role : Role) (budget : ℕ) (f : Polynomial Symbol) (steps : List Step) (st : Step) : Type 0 where
+  pub so_far : Ran
+  pub is_run : run g s role f steps ≡ Ok so_far
+  pub within : (so_far).count ≤ budget
+  pub is_next : next_step g s role (so_far).end ≡ Some st
 
 -- a full run that comes to its end is a run with this end and count, and the end admits no step
 pub record FullRunLaws (g : Setting) : Type 0 where
@@ -27,9 +34,15 @@ pub record FullRunLaws (g : Setting) : Type 0 where
   -- its count is within the budget
   pub within : (s : State) (role : Role) (budget : ℕ) (f : Polynomial Symbol) (steps : List Step) (end : Polynomial Symbol) (count : ℕ)
       → full_run g s role budget f ≡ finished steps end count → count ≤ budget
-  -- a full run that is cut is a run with a count past the budget
-  pub is_cut : (s : State) (role : Role) (budget : ℕ) (f : Polynomial Symbol) (steps : List Step)
-      → full_run g s role budget f ≡ passed steps → (x : Ran) × (run g s role f steps ≡ Ok x) × (budget < x.count)
+  -- one that is stopped is a run within the budget up to its last step, which is the next one and has no result
+  pub is_stopped : (s : State) (role : Role) (budget : ℕ) (f : Polynomial Symbol) (steps : List Step) (st : Step) (stop : Stop)
+      → full_run g s role budget f ≡ stopped (steps ++ st ∷ []) stop → (x : RunsUpTo g s role budget f steps st) × (step_in g s role x.so_far.end st ≡ Err stop)
+  -- one that is cut is a run within the budget up to its last step, which is the next one, and with it a run past the budget
+  pub is_cut : (s : State) (role : Role) (budget : ℕ) (f : Polynomial Symbol) (steps : List Step) (st : Step)
+      → full_run g s role budget f ≡ passed (steps ++ st ∷ []) → RunsUpTo g s role budget f steps st × (x : Ran) × (run g s role f (steps ++ st ∷ []) ≡ Ok x) × (budget < x.count)
+  -- both have a last step
+  pub stopped_at_some : (s : State) (role : Role) (budget : ℕ) (f : Polynomial Symbol) (steps : List Step) (stop : Stop) → full_run g s role budget f ≡ stopped steps stop → steps ≢ []
+  pub cut_at_some : (s : State) (role : Role) (budget : ℕ) (f : Polynomial Symbol) (steps : List Step) → full_run g s role budget f ≡ passed steps → steps ≢ []
 
 -- the degree in v is less, and that in no greater symbol is more
 abbrev pub IsLower : RankingValue → Symbol → Polynomial Symbol → Polynomial Symbol → Type 0

@@ -1,6 +1,6 @@
 //! Full runs.
 
-ghost use Rattle.std.specs.Prelude.{◌≡◌, ◌≢◌, ◌<◌, ◌≤◌, ◌-◌, ℕ, true, [], Some, Ok, IfOk, IfErr, OnOk, OnErr};
+ghost use Rattle.std.specs.Prelude.{◌≡◌, ◌≢◌, ◌<◌, ◌≤◌, ◌+◌, ◌-◌, ℕ, true, [], ◌∷◌, ◌++◌, length, Some, Ok, IfOk, IfErr, OnOk, OnErr};
 ghost use Rattle.dz_poly.specs.Books.{IsAdded, IsKept, Lives, polynomial};
 ghost use Rattle.dz_terms.specs.Entries.{IsEntry};
 ghost use Rattle.dz_diff.specs.Operations.{setting_of};
@@ -25,7 +25,7 @@ use crate::{Role, Step, StepList};
 use dz_diff::{State, norm_entry};
 use dz_poly::{Book, Limit, Poly};
 use dz_terms::Entry;
-use std::alloc::Global;
+use std::alloc::{AllocError, Global};
 use thiserror::Error;
 
 /// Why a full run stops before its end.
@@ -57,6 +57,7 @@ pub struct Attempt {
 pub(crate) enum Turn {
     /// There is no further step.
     AtRest,
+    /// The next step has this result.
     Taken(Step, Entry),
     Stopped(AttemptStop),
 }
@@ -102,22 +103,16 @@ fn next_result(
     )
 }
 
-/// The turn of the step that is next on `f`, where `left` of the budget is left.
-fn turn_by(book: &Book, state: &State, role: Role, f: &Entry, step: Step, left: u32) -> Turn
+/// The turn of the step that is next on `f`.
+fn turn_by(book: &Book, state: &State, role: Role, f: &Entry, step: Step) -> Turn
     requires stands { StandsIn book.now state.now }
     requires f { IsEntry book.now.ranking f.now.terms.items f.now.degrees.items }
     requires next { next_step (setting_of book.now.ranking) (state_in book.now state.now) role
         f.now.terms.items ≡ Some step }
-    ensures { IsTurn book.now.ranking (state_in book.now state.now) role f.now.terms.items left
-        result }
+    ensures { IsTurn book.now.ranking (state_in book.now state.now) role f.now.terms.items result }
 {
     match next_result(book, state, role, f, step) {
-        Ok(rest) => {
-            if rest.terms.len() >= left as usize {
-                return Turn::Stopped(AttemptStop::Spent(step));
-            }
-            Turn::Taken(step, rest)
-        }
+        Ok(rest) => Turn::Taken(step, rest),
         Err(StepStop::Memory) => Turn::Stopped(AttemptStop::Memory),
         Err(StepStop::Wide) => Turn::Stopped(AttemptStop::Wide(step)),
         Err(StepStop::Large(limit)) => Turn::Stopped(AttemptStop::Large(limit, step)),
@@ -125,30 +120,46 @@ fn turn_by(book: &Book, state: &State, role: Role, f: &Entry, step: Step, left: 
     }
 }
 
-/// One turn of a full run, which is at `f`, where `left` of the budget is left.
+/// One turn of a full run that is at `f`, apart from its budget.
 fn one_turn(
     book: &Book,
     state: &State,
     role: Role,
     table: &mut Vec<Option<Divisor>>,
     f: &Entry,
-    left: u32,
 ) -> Turn
     requires stands { StandsIn book.now state.now }
     requires table { AreDivisors book.now.ranking (state_in book.now state.now) role table.old.items }
     requires f { IsEntry book.now.ranking f.now.terms.items f.now.degrees.items }
     ensures table { AreDivisors book.now.ranking (state_in book.now state.now) role table.new.items }
-    ensures turn { IsTurn book.now.ranking (state_in book.now state.now) role f.now.terms.items left
+    ensures turn { IsTurn book.now.ranking (state_in book.now state.now) role f.now.terms.items
         result }
 {
     match next_step_entry(book, state, role, table, f) {
-        Ok(Some(step)) => turn_by(book, state, role, f, step, left),
+        Ok(Some(step)) => turn_by(book, state, role, f, step),
         Ok(None) => Turn::AtRest,
         Err(_) => Turn::Stopped(AttemptStop::Memory),
     }
 }
 
+/// A full run goes on by a step with its result, with which it stays within its budget.
+fn take_step(progress: &mut Progress, step: Step, next: Entry) -> Result<(), AllocError>
+    requires within { length next.terms.items < progress.old.left }
+    ensures run { OnOk result (progress.new.run ≡ progress.old.run ++ step ∷ []) }
+    ensures rest { OnOk result (progress.new.rest ≡ next) }
+    ensures left { OnOk result
+        (progress.new.left + 1 + length next.terms.items ≡ progress.old.left) }
+    ensures refused { OnErr result (progress.new ≡ progress.old) }
+{
+    let left = progress.left;
+    progress.run.push(step)?;
+    progress.left = left - (1 + next.terms.len() as u32);
+    progress.rest = next;
+    Ok(())
+}
+
 /// One turn of a full run: whether a step was taken, or why it stops here.
+#[tactic(auto, using(crate::proofs::Advances::spends, crate::proofs::Advances::stops))]
 fn advance(
     book: &Book,
     state: &State,
@@ -167,15 +178,16 @@ fn advance(
         → IsAt book.now.ranking (state_in book.now state.now) role budget f progress.old
         → IsAdvance book.now.ranking (state_in book.now state.now) role budget f progress.new result }
 {
-    match one_turn(book, state, role, table, &progress.rest, progress.left) {
+    match one_turn(book, state, role, table, &progress.rest) {
         Turn::AtRest => Ok(false),
         Turn::Stopped(stop) => Err(stop),
         Turn::Taken(step, next) => {
-            if progress.run.push(step).is_err() {
+            if next.terms.len() >= progress.left as usize {
+                return Err(AttemptStop::Spent(step));
+            }
+            if take_step(progress, step, next).is_err() {
                 return Err(AttemptStop::Memory);
             }
-            progress.left -= 1 + next.terms.len() as u32;
-            progress.rest = next;
             Ok(true)
         }
     }
@@ -284,7 +296,8 @@ pub fn run_fully(
 /// As long as there is a step in the role, it takes the one at the greatest derivative, with the
 /// least place. The count of a run is the number of its steps and of the terms of all their results.
 /// Where the run stops before its end, the steps so far are a run, and the next step is named that
-/// has no result or makes the count pass the budget. Only the end is put into the book.
+/// has no result or makes the count pass the budget. Where memory runs out, the steps so far are the
+/// first of those that the full run takes. Only the end is put into the book.
 pub fn reduce_fully(
     alloc: Global,
     book: &mut Book,

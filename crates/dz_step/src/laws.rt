@@ -10,8 +10,8 @@ ghost use Rattle.dz_diff.specs.Over.{IsOver};
 ghost use Rattle.dz_diff.specs.State.{State};
 ghost use Rattle.dz_step.specs.Laws.{FullRunLaws, ReductionLaws};
 
-/// A full run that comes to its end is a run within its budget, and its end admits no step; one
-/// that is cut is a run past its budget.
+/// A full run that comes to its end is a run within its budget, and its end admits no step; any
+/// other is a run within its budget up to its last step, which is the next one there.
 #[tactic(auto, using(crate::proofs::FullRuns::full_run_laws))]
 pub fn full_runs_come_to_rest()
     ensures { (g : Setting) → FullRunLaws g }

@@ -11,6 +11,7 @@ use Rattle.dz_diff.specs.Outcome.{◌>>=◌, given, told_as}
 use Rattle.dz_diff.specs.State.{State, at_place, put_equation, put_inequation}
 use Rattle.dz_diff.specs.States.{MeanAll, StandsIn, StateValue, polynomials, state_in}
 use Rattle.dz_diff.specs.Tests.{Polynomials}
+use Rattle.dz_diff.proofs.Answers.{given_then}
 use Rattle.dz_diff.proofs.KeptStates.{kept_polynomials, kept_state}
 use Rattle.dz_step.specs.Replays.{IsReplayFault, IsRunEnd}
 use Rattle.dz_step.specs.Run.{Ran, run, run_from}
@@ -92,6 +93,19 @@ module _ (book : BookValue) (s : State) (role : Role) (i : ℕ) (ps : List ℕ) 
     -- the run ends
     pub placed_ran : (x : RunEnd) → IsRunEnd x (run_from (setting_of book.ranking) s role 1 n 0 steps) → IsRunEnd x (placed_run (setting_of book.ranking) s role i (polynomials book ps) steps)
     placed_ran x h = record { count = h.count; is = placed_is ∙ ap (told_as run_fault) h.is; counted = h.counted }
+
+-- where a run ends, something stands at its place
+pub placed_there : (book : BookValue) (s : State) (role : Role) (i : ℕ) (ps : List ℕ) (steps : List Step) (x : RunEnd) → IsRunEnd x (placed_run (setting_of book.ranking) s role i (polynomials book ps) steps) → (1 ≤ i) × (i ≤ length ps)
+placed_there book s role i ps steps x h = by_place (at_place i ps) refl
+  where
+    by_place : (o : Option ℕ) → at_place i ps ≡ o → (1 ≤ i) × (i ≤ length ps)
+    by_place (Some p) e = place_inside ps i p e
+    by_place None e =
+        let a = given_then (at_place i (polynomials book ps)) (0, rule rules.Place) _ _ h.is in
+        absurd (nothing a.0 (sym a.1 ∙ none_at book ps i e))
+      where
+        nothing : (q : Polynomial Symbol) → ◌≡◌ {A = Option (Polynomial Symbol)} (Some q) None → ⊥
+        nothing q e = cc
 
 -- ---- moves
 -- a reduce is a run, and what is made of its end

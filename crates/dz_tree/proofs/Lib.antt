@@ -18,6 +18,7 @@ pub mod StepLists
 pub mod MemberLists
 pub mod SameLists
 pub mod Acting
+pub mod KnownActions
 pub mod Outcomes
 pub mod NewNorms
 pub mod ReachedStates

@@ -13,6 +13,7 @@ pub mod TreeLines
 pub mod Counting
 pub mod LineOperators
 pub mod Actions
+pub mod KnownEnds
 pub mod Entering
 pub mod Leaving
 pub mod ChainParts

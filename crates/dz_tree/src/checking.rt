@@ -18,7 +18,7 @@ use crate::lines::{Line, Verdict};
 use crate::roots::root;
 use crate::system::System;
 use crate::tree::Tree;
-use crate::walking::{Pending, Turned, is_pair, push_state, turn};
+use crate::walking::{Pending, is_pair, push_state, turn};
 use dz_diff::State;
 use dz_poly::Book;
 use std::alloc::{AllocError, Global};
@@ -38,8 +38,8 @@ fn rejected(index: usize, fault: EntryFault) -> Result<Verdict, AllocError>
     }
 }
 
-/// The verdict on lines, by a walk over them from a stack of states on. The polynomials that are made
-/// on the way stay in the book but for those of the states that were taken up before.
+/// The verdict on lines, by a walk over them from a stack of states on. What the lines of the branch
+/// that was taken up last have made stays in the book.
 fn walked(
     book: &mut Book,
     stack: &mut Vec<Pending>,
@@ -62,14 +62,9 @@ fn walked(
             continue;
         }
         match turn(book, stack, line, &lines[k + 1..], weight, budget) {
-            Ok(
-                Turned {
-                    weight: next,
-                    is_open: opens,
-                },
-            ) => {
-                weight = next;
-                is_open |= opens;
+            Ok(turned) => {
+                weight = turned.weight;
+                is_open |= turned.is_open;
             }
             Err(fault) => return rejected(k, fault),
         }
@@ -96,7 +91,7 @@ fn judged(book: &mut Book, root: State, lines: &[Line], budget: u32) -> Result<V
     walked(book, &mut stack, lines, budget)
 }
 
-/// The verdict on a tree for a system. The polynomials that are made on the way stay in the book.
+/// The verdict on a tree for a system, where polynomials that are made on the way stay in the book.
 fn checked(
     alloc: Global,
     book: &mut Book,

@@ -1,6 +1,6 @@
 //! Whether the operators in lines belong to a signature.
 
-ghost use Rattle.std.specs.Prelude.{◌≡◌, ◌↔◌, IsTrue, map};
+ghost use Rattle.std.specs.Prelude.{◌↔◌, IsTrue, map};
 ghost use Rattle.dz_rank.specs.Symbols.{IsOperatorOf};
 ghost use Rattle.dz_tree.specs.LineOperators.{AreStepsOf, HaveOperatorsOf, steps_in};
 ghost use Rattle.dz_tree.specs.Moves.{steps_of};

@@ -8,6 +8,7 @@ ghost use Rattle.dz_diff.specs.Operations.{setting_of};
 ghost use Rattle.dz_diff.specs.States.{LiveAll, StandsIn, polynomials, state_in};
 ghost use Rattle.dz_diff.specs.Tests.{same, same_all};
 ghost use Rattle.dz_step.specs.Replays.{IsRunEnd};
+ghost use Rattle.dz_step.specs.declared.Role.TheVariants.{Equation, Inequation};
 ghost use Rattle.dz_tree.specs.Actions.{IsActionStop, IsDrafted, IsWeight, draft_in, draft_value};
 ghost use Rattle.dz_tree.specs.Moves.{divided_at, grown, moved, reduced, weeded};
 ghost use Rattle.dz_tree.specs.Parts.{placed_run};
@@ -134,6 +135,28 @@ pub(crate) fn reduced(
         run,
         Role::Equation(place),
     )?;
+    reduced_to(book, state, place, run, ran)
+}
+
+/// The end of a run on an equation is put at its place, where the end is known.
+pub(crate) fn reduced_to(
+    book: &mut Book,
+    state: &State,
+    place: u16,
+    run: &StepList,
+    ran: RunEnd,
+) -> Result<Drafted, ActionStop>
+    requires stands { StandsIn book.old state.now }
+    requires ran { IsRunEnd ran (placed_run (setting_of book.old.ranking)
+        (state_in book.old state.now) (Equation place) place
+        (polynomials book.old state.now.equations) run.now) }
+    requires entry { IsEntry book.old.ranking ran.end.terms.items ran.end.degrees.items }
+    ensures ok { IfOk result (λ x. IsDrafted book.new x (reduced (setting_of book.old.ranking)
+        (state_in book.old state.now) place run.now)) }
+    ensures refused { IfErr result (λ stop. IsActionStop stop (reduced
+        (setting_of book.old.ranking) (state_in book.old state.now) place run.now)) }
+    ensures kept { IsKept book.old book.new }
+{
     let RunEnd { end, count } = ran;
     let equations = put(book, Members::Equations, state.equations(), place, end)?;
     let inequations = names(book.allocator(), state.inequations())?;
@@ -167,6 +190,28 @@ pub(crate) fn weeded(
         run,
         Role::Inequation(place),
     )?;
+    weeded_to(book, state, place, run, ran)
+}
+
+/// The end of a run on an inequation is put at its place, where the end is known.
+pub(crate) fn weeded_to(
+    book: &mut Book,
+    state: &State,
+    place: u16,
+    run: &StepList,
+    ran: RunEnd,
+) -> Result<Drafted, ActionStop>
+    requires stands { StandsIn book.old state.now }
+    requires ran { IsRunEnd ran (placed_run (setting_of book.old.ranking)
+        (state_in book.old state.now) (Inequation place) place
+        (polynomials book.old state.now.inequations) run.now) }
+    requires entry { IsEntry book.old.ranking ran.end.terms.items ran.end.degrees.items }
+    ensures ok { IfOk result (λ x. IsDrafted book.new x (weeded (setting_of book.old.ranking)
+        (state_in book.old state.now) place run.now)) }
+    ensures refused { IfErr result (λ stop. IsActionStop stop (weeded
+        (setting_of book.old.ranking) (state_in book.old state.now) place run.now)) }
+    ensures kept { IsKept book.old book.new }
+{
     let RunEnd { end, count } = ran;
     let inequations = put(book, Members::Inequations, state.inequations(), place, end)?;
     let equations = names(book.allocator(), state.equations())?;

@@ -11,7 +11,8 @@ ghost use Rattle.dz_tree.specs.Walk.{verdict_of};
 use crate::alone::{Alone, told_alone};
 use crate::lines::lines;
 use crate::systems::system_of;
-use crate::words::number;
+use crate::words::{number, split_at_first};
+use crate::working::{Working, told_working};
 use dz_poly::{Book, PolyStop};
 use dz_rank::Ranking;
 use dz_syntax::{Form, SyntaxKind, SystemTree, read_system};
@@ -24,9 +25,18 @@ use std::alloc::{AllocError, Global};
 pub(crate) enum Judgement {
     /// The lines form no tree, or the budget is too great.
     NoTree,
-    /// What is told of the tree, with the number of its chains, and what its first line is told
-    /// alone.
-    Checked(Verdict, usize, Alone),
+    Checked(Told),
+}
+
+/// What is told of a tree.
+#[derive(Clone, Copy, Debug, PartialEq, Eq)]
+pub(crate) struct Told {
+    pub(crate) verdict: Verdict,
+    pub(crate) chains: usize,
+    /// What its first line is told at the root.
+    pub(crate) alone: Alone,
+    /// How it stands to the worked tree.
+    pub(crate) working: Working,
 }
 
 /// Why a case is not judged.
@@ -93,6 +103,7 @@ fn tree_told(
     alloc: Global,
     case: &SystemTree,
     budget: u32,
+    is_worked: bool,
     texts: &[&[u8]],
 ) -> Result<Judgement, Stop>
     requires ranking { IsRanking
@@ -116,9 +127,15 @@ fn tree_told(
         return Err(Stop::NoCase);
     }
     let alone = told_alone(alloc, &mut book, &system, &tree)?;
+    let working = told_working(alloc, &mut book, &system, &tree, is_worked)?;
     let verdict = check(alloc, &mut book, &system, &tree)?;
     let chains = chain_count(alloc, &mut book, &system, &tree, verdict)?;
-    Ok(Judgement::Checked(verdict, chains, alone))
+    Ok(Judgement::Checked(Told {
+        verdict,
+        chains,
+        alone,
+        working,
+    }))
 }
 
 /// What is told of a case, by the lines after its name.
@@ -127,8 +144,15 @@ pub(crate) fn judge(alloc: Global, texts: &[&[u8]]) -> Result<Judgement, Stop> {
         return Err(Stop::NoCase);
     }
     let case = system_tree(alloc, texts[0])?;
-    let Some(budget) = number(texts[1]) else {
+    let (first, second) = split_at_first(texts[1], b' ');
+    let Some(budget) = number(first) else {
         return Err(Stop::NoCase);
     };
-    tree_told(alloc, &case, budget, &texts[2..])
+    tree_told(
+        alloc,
+        &case,
+        budget,
+        second == b"worked".as_slice(),
+        &texts[2..],
+    )
 }

@@ -2,6 +2,7 @@
 
 use crate::alone::Alone;
 use crate::judging::{Judgement, Stop, judge};
+use crate::working::Working;
 use dz_poly::Limit;
 use dz_tree::{Rule, Verdict};
 use itoa::Buffer;
@@ -87,6 +88,19 @@ fn write_alone(into: &mut Vec<u8>, alone: Alone) -> Result<(), AllocError> {
     }
 }
 
+/// Appends what is told of a tree beside the worked one, if that was asked for.
+fn write_working(into: &mut Vec<u8>, working: Working) -> Result<(), AllocError> {
+    match working {
+        Working::Nothing => Ok(()),
+        Working::Same => into.extend_from_slice(b"; worked"),
+        Working::OtherNext => into.extend_from_slice(b"; not next"),
+        Working::Other(line) => {
+            into.extend_from_slice(b"; not worked from ")?;
+            write_number(into, line)
+        }
+    }
+}
+
 /// Appends the line of a case; none where there is no line of one.
 fn tell(alloc: Global, case: &[&[u8]], into: &mut Vec<u8>) -> Result<(), AllocError> {
     let Some((name, rest)) = case.split_first() else {
@@ -95,9 +109,10 @@ fn tell(alloc: Global, case: &[&[u8]], into: &mut Vec<u8>) -> Result<(), AllocEr
     into.extend_from_slice(name)?;
     into.extend_from_slice(b": ")?;
     match judge(alloc, rest) {
-        Ok(Judgement::Checked(verdict, chains, alone)) => {
-            write_verdict(into, verdict, chains)?;
-            write_alone(into, alone)?;
+        Ok(Judgement::Checked(told)) => {
+            write_verdict(into, told.verdict, told.chains)?;
+            write_alone(into, told.alone)?;
+            write_working(into, told.working)?;
         }
         Ok(Judgement::NoTree) => into.extend_from_slice(b"no tree")?,
         Err(Stop::NoCase) => into.extend_from_slice(b"no case")?,

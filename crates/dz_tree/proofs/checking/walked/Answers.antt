@@ -54,9 +54,9 @@ lines-preserved c =
     let stack = reverse c.lines.stack.items in
     let keeps = stack_kept base stack book c.lines.invariant.walks.stacked in
     let here = here_told base book keeps c.args.budget c.lines.weight c.lines.is_open (k + 1) book stack lines k c.index-lines-k.result c.lines-test.true c.index-lines-k.is in
-    let next = behind_told base book keeps c.args.budget c.in-Ok.field-0.weight (c.lines.is_open || c.in-Ok.field-0.is_open) (k + 1 + 1) new (reverse c.turn.new.stack.items) lines (k + 1) in
+    let next = behind_told base book keeps c.args.budget c.in-Ok.turned.weight (c.lines.is_open || c.in-Ok.turned.is_open) (k + 1 + 1) new (reverse c.turn.new.stack.items) lines (k + 1) in
     record {
-      walks = walks_behind base new c.args.budget c.in-Ok.field-0.weight (reverse c.turn.new.stack.items) lines (k + 1)
+      walks = walks_behind base new c.args.budget c.in-Ok.turned.weight (reverse c.turn.new.stack.items) lines (k + 1)
           (c.in-Ok.ensures.walks base (walks_here base book c.args.budget c.lines.weight stack lines k c.index-lines-k.result c.lines-test.true c.index-lines-k.is c.lines.invariant.walks));
       same = sym next ∙ sym (c.in-Ok.ensures.ok (k + 1) c.lines.is_open) ∙ here ∙ c.lines.invariant.same;
     }

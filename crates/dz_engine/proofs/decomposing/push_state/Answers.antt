@@ -1,0 +1,5 @@
+use Rattle.dz_engine.proofs.Turns.{pushed_one}
+use Rattle.dz_engine.proofs.decomposing.push_state.Goals as goal
+
+pub returns : goal.returns
+returns c = pushed_one c.args.book.now c.args.pending.now.items c.push.new.self.items _ c.in_ok-push.ensures.items c.mark.ensures c.requires.stands c.requires.facts

@@ -1,0 +1,155 @@
+//! Full runs on members, as the order of work names them.
+
+ghost use Rattle.std.specs.Prelude.{◌≡◌, ◌≤◌, ◌-◌, ◌+◌, ℕ, Some, IfOk, IsSome};
+ghost use Rattle.dz_algebra.specs.Polynomial.{Polynomial};
+ghost use Rattle.dz_poly.specs.Books.{BookValue, Lives, polynomial};
+ghost use Rattle.dz_rank.specs.Rankings.{RankingValue};
+ghost use Rattle.dz_rank.specs.declared.symbols.Symbol.{Symbol};
+ghost use Rattle.dz_diff.specs.Operations.{Setting, setting_of};
+ghost use Rattle.dz_diff.specs.State.{State as DefinedState, at_place};
+ghost use Rattle.dz_diff.specs.States.{LiveAll, StandsIn, polynomials, state_in};
+ghost use Rattle.dz_step.specs.FullRun.{Course, full_run};
+ghost use Rattle.dz_tree.specs.TreeLines.{action_of};
+ghost use Rattle.dz_engine.specs.Finding.{role_in};
+ghost use Rattle.dz_engine.specs.Halting.{IsHalt};
+ghost use Rattle.dz_engine.specs.Naming.{CourseHasEntry, HasEntry, IsAction, IsCoursed, IsNamed};
+ghost use Rattle.dz_engine.specs.Naming.{members_of, run_action};
+ghost use Rattle.dz_engine.specs.Order.{by_course};
+
+use crate::admitting::{Members, role_in};
+use crate::halting::{Halt, halted};
+use crate::naming::{Named, ended};
+use dz_diff::norm_entry;
+use dz_poly::{Book, Limit, Poly};
+use dz_step::{FullRun, Role, RunEnd, State, StepList, member_at, run_fully};
+use dz_tree::{Line, Next};
+use std::alloc::{AllocError, Global};
+
+/// A full run as it is named: its steps up to its end, with the end and its count, or up to its
+/// budget, or up to the operation that is refused.
+#[derive(Drop)]
+pub(crate) enum Coursed {
+    Ended(StepList, RunEnd),
+    Steps(StepList),
+    Wide(StepList),
+    Large(Limit, StepList),
+}
+
+/// A run that stops before its end.
+fn halted_course(halt: Halt) -> Coursed
+    ensures course { (course : Course) → IsHalt halt course → IsCoursed result course }
+    ensures entry { (r : RankingValue) → CourseHasEntry r result }
+{
+    match halt {
+        Halt::Passed(run) => Coursed::Steps(run),
+        Halt::Wide(run) => Coursed::Wide(run),
+        Halt::Large(limit, run) => Coursed::Large(limit, run),
+    }
+}
+
+/// The full run on a polynomial.
+fn course(
+    book: &Book,
+    state: &State,
+    role: Role,
+    p: Poly,
+    budget: u32,
+) -> Result<Coursed, AllocError>
+    requires stands { StandsIn book.now state.now }
+    requires lives { Lives book.now p }
+    ensures course { IfOk result (λ x. IsCoursed x (full_run (setting_of book.now.ranking)
+        (state_in book.now state.now) role budget (polynomial book.now p))) }
+    ensures entry { IfOk result (λ x. CourseHasEntry book.now.ranking x) }
+{
+    let norm = norm_entry(book, p)?;
+    match run_fully(book.allocator(), book, norm, state, role, budget) {
+        Ok(FullRun { run, end, count }) => Ok(Coursed::Ended(
+            run,
+            RunEnd {
+                end,
+                count: count as usize,
+            },
+        )),
+        Err(attempt) => {
+            let halt = halted(attempt)?;
+            Ok(halted_course(halt))
+        }
+    }
+}
+
+/// The name of a full run on a member.
+fn run_name(members: Members, place: u16, run: StepList) -> Next
+    ensures name { action_of result ≡ run_action members place run }
+    ensures action { IsAction result }
+{
+    match members {
+        Members::Equations => Next::Reduce { place, run },
+        Members::Inequations => Next::Weed { place, run },
+    }
+}
+
+/// The polynomials of one of the lists.
+fn members_of(state: &State, members: Members) -> &[Poly]
+    ensures value { (book : BookValue) → polynomials book result.now
+        ≡ members_of members (state_in book state.now) }
+    ensures live { (book : BookValue) → StandsIn book state.now → LiveAll book result.now }
+{
+    match members {
+        Members::Equations => state.equations(),
+        Members::Inequations => state.inequations(),
+    }
+}
+
+/// What is named for a full run on a member.
+fn course_named(
+    alloc: Global,
+    members: Members,
+    place: u16,
+    coursed: Coursed,
+) -> Result<Named, AllocError>
+    ensures named { IfOk result (λ x. (g : Setting) (budget w left : ℕ) (s : DefinedState)
+        (p : Polynomial Symbol) → at_place place (members_of members s) ≡ Some p
+        → IsCoursed coursed (full_run g s (role_in members place) left p)
+        → IsNamed g budget w s x (by_course g budget w s (run_action members place)
+        (full_run g s (role_in members place) left p))) }
+    ensures entry { IfOk result (λ x. (r : RankingValue) → CourseHasEntry r coursed
+        → HasEntry r x) }
+{
+    match coursed {
+        Coursed::Ended(run, end) => Ok(Named::Known(run_name(members, place, run), end)),
+        Coursed::Steps(run) => Ok(Named::Perform(run_name(members, place, run))),
+        Coursed::Wide(run) => ended(alloc, Line::Wide(run_name(members, place, run))),
+        Coursed::Large(limit, run) => {
+            ended(alloc, Line::Large(limit, run_name(members, place, run)))
+        }
+    }
+}
+
+/// What is named where the member at a place admits a step, by a full run.
+pub(crate) fn run_named(
+    book: &Book,
+    state: &State,
+    members: Members,
+    place: u16,
+    weight: u32,
+    budget: u32,
+) -> Result<Named, AllocError>
+    requires stands { StandsIn book.now state.now }
+    requires within { weight ≤ budget }
+    requires most { budget ≤ 20000000 }
+    requires there { IsSome (at_place place (members_of members (state_in book.now state.now))) }
+    ensures entry { IfOk result (λ x. HasEntry book.now.ranking x) }
+    ensures named { IfOk result (λ x. (p : Polynomial Symbol)
+        → at_place place (members_of members (state_in book.now state.now)) ≡ Some p
+        → IsNamed (setting_of book.now.ranking) budget weight (state_in book.now state.now) x
+        (by_course (setting_of book.now.ranking) budget weight (state_in book.now state.now)
+        (run_action members place) (full_run (setting_of book.now.ranking)
+        (state_in book.now state.now) (role_in members place) (budget - (weight + 1)) p))) }
+{
+    let Some(p) = member_at(members_of(state, members), place) else {
+        unreachable!()
+    };
+    let left = budget.saturating_sub(weight + 1);
+    let coursed = course(book, state, role_in(members, place), p, left)?;
+    course_named(book.allocator(), members, place, coursed)
+}

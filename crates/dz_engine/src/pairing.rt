@@ -1,0 +1,229 @@
+//! The critical pairs of a state, one after the other.
+
+ghost use Rattle.std.specs.Prelude.{◌≡◌, ◌≤◌, ◌-◌, ◌+◌, ℕ, List, Some, Ok, IfOk, IfSome, [], ◌∷◌, map};
+ghost use Rattle.dz_rank.specs.Rankings.{RankingValue};
+ghost use Rattle.dz_terms.specs.Entries.{IsEntry};
+ghost use Rattle.dz_terms.specs.Ranked.{symbols_under};
+ghost use Rattle.dz_diff.specs.Operations.{Setting, setting_of};
+ghost use Rattle.dz_diff.specs.State.{State as DefinedState};
+ghost use Rattle.dz_diff.specs.States.{StandsIn, state_in};
+ghost use Rattle.dz_step.specs.FullRun.{Course};
+ghost use Rattle.dz_tree.specs.Chain.{Evidence};
+ghost use Rattle.dz_tree.specs.Lines.{pair};
+ghost use Rattle.dz_tree.specs.TreeLines.{line_of};
+ghost use Rattle.dz_engine.specs.Halting.{IsHalt};
+ghost use Rattle.dz_engine.specs.Naming.{HasEntry, IsNamed, IsOnward, IsPairAt, IsPairCourse, IsPairStop};
+ghost use Rattle.dz_engine.specs.Naming.{IsSoFar, line_weight, states_below};
+ghost use Rattle.dz_engine.specs.Order.{delta_at, with_evidence};
+
+use crate::halting::{Halt, halted};
+use crate::naming::{Named, ended};
+use dz_pair::{delta_entry, pairs};
+use dz_poly::{Book, Limit, PolyStop};
+use dz_step::{FullRun, Role, State, StepList, member_at, run_fully};
+use dz_terms::{Entry, into_norm};
+use dz_tree::{Line, Next};
+use std::alloc::{AllocError, Global};
+
+/// The run of a critical pair: to zero, with its weight; past the budget; to an end that is not
+/// zero; or up to an operation that is refused.
+#[derive(Drop)]
+pub(crate) enum PairCourse {
+    Zero(StepList, u32),
+    Spent(StepList),
+    Grown(StepList),
+    Wide(StepList),
+    Large(Limit, StepList),
+}
+
+/// A run of a pair that stops before its end.
+fn pair_halt(halt: Halt) -> PairCourse
+    ensures { (course : Course) → IsHalt halt course → IsPairStop result course }
+{
+    match halt {
+        Halt::Passed(run) => PairCourse::Spent(run),
+        Halt::Wide(run) => PairCourse::Wide(run),
+        Halt::Large(limit, run) => PairCourse::Large(limit, run),
+    }
+}
+
+/// The run of a pair from its Delta-polynomial on, where `left` of the budget is left.
+fn delta_course(
+    book: &Book,
+    state: &State,
+    delta: Entry,
+    left: u32,
+) -> Result<PairCourse, AllocError>
+    requires stands { StandsIn book.now state.now }
+    requires delta { IsEntry book.now.ranking delta.terms.items delta.degrees.items }
+    ensures { IfOk result (λ x. (budget w i j : ℕ) → w ≤ budget → left ≡ budget - w
+        → delta_at (setting_of book.now.ranking) (state_in book.now state.now) (i, j)
+        ≡ Ok delta.terms.items
+        → IsPairCourse (setting_of book.now.ranking) budget w (state_in book.now state.now)
+        (i, j) x) }
+{
+    let terms = delta.term_count();
+    if terms >= left as usize {
+        return Ok(PairCourse::Spent(StepList::new(book.allocator())));
+    }
+    let rest = left - 1 - terms as u32;
+    match run_fully(
+        book.allocator(),
+        book,
+        into_norm(delta),
+        state,
+        Role::Free,
+        rest,
+    ) {
+        Ok(FullRun { run, end, count }) => {
+            if !end.is_zero() {
+                return Ok(PairCourse::Grown(run));
+            }
+            Ok(PairCourse::Zero(run, 1 + terms as u32 + count))
+        }
+        Err(attempt) => {
+            let halt = halted(attempt)?;
+            Ok(pair_halt(halt))
+        }
+    }
+}
+
+/// The run of the critical pair at two places, where `left` of the budget is left.
+fn pair_course(
+    book: &Book,
+    state: &State,
+    first: u16,
+    second: u16,
+    left: u32,
+) -> Result<PairCourse, AllocError>
+    requires stands { StandsIn book.now state.now }
+    requires pair { IsPairAt (symbols_under book.now.ranking) (state_in book.now state.now)
+        first second }
+    ensures { IfOk result (λ x. (budget w : ℕ) → w ≤ budget → left ≡ budget - w
+        → IsPairCourse (setting_of book.now.ranking) budget w (state_in book.now state.now)
+        (first, second) x) }
+{
+    let Some(p) = member_at(state.equations(), first) else {
+        unreachable!()
+    };
+    let Some(q) = member_at(state.equations(), second) else {
+        unreachable!()
+    };
+    match delta_entry(
+        book.allocator(),
+        book.ranking(),
+        book.entry(p),
+        book.entry(q),
+    ) {
+        Ok(delta) => delta_course(book, state, delta, left),
+        Err(PolyStop::Memory) => Err(AllocError),
+        Err(PolyStop::Wide) => Ok(PairCourse::Wide(StepList::new(book.allocator()))),
+        Err(PolyStop::Large(limit)) => {
+            Ok(PairCourse::Large(limit, StepList::new(book.allocator())))
+        }
+    }
+}
+
+/// The evidence of the pairs so far, and the running weight with it.
+#[derive(Drop)]
+struct SoFar {
+    lines: Vec<Line>,
+    spent: u32,
+}
+
+/// An end with evidence.
+fn headed(
+    alloc: Global,
+    head: Line,
+    evidence: &mut Vec<Line>,
+    weight: u32,
+) -> Result<Named, AllocError>
+    ensures entry { IfOk result (λ x. (r : RankingValue) → HasEntry r x) }
+    ensures named { IfOk result (λ x. (g : Setting) (budget w : ℕ) (s : DefinedState) (es : List Evidence)
+        → map line_of evidence.old.items ≡ map pair es
+        → weight ≡ line_weight g s (line_of head) es → states_below g s (line_of head) ≡ []
+        → IsNamed g budget w s x (with_evidence (line_of head) es)) }
+{
+    let mut lines = Vec::new(alloc);
+    lines.push(head)?;
+    lines.append(evidence)?;
+    Ok(Named::End(lines, weight))
+}
+
+/// What is named by the critical pair at two places, after those before it; nothing where its run
+/// ends at zero.
+fn one_pair(
+    book: &Book,
+    state: &State,
+    first: u16,
+    second: u16,
+    budget: u32,
+    so_far: &mut SoFar,
+) -> Result<Option<Named>, AllocError>
+    requires stands { StandsIn book.now state.now }
+    requires pair { IsPairAt (symbols_under book.now.ranking) (state_in book.now state.now)
+        first second }
+    requires within { so_far.old.spent ≤ budget }
+    ensures within { so_far.new.spent ≤ budget }
+    ensures entry { IfOk result (λ o. IfSome o (λ x. (r : RankingValue) → HasEntry r x)) }
+    ensures onward { IfOk result (λ o. (weight : ℕ) (ps : List (ℕ × ℕ))
+        → IsSoFar (setting_of book.now.ranking) budget weight (state_in book.now state.now)
+        so_far.old.lines.items so_far.old.spent ((first, second) ∷ ps)
+        → IsOnward (setting_of book.now.ranking) budget weight (state_in book.now state.now)
+        so_far.new.lines.items so_far.new.spent ps o) }
+{
+    let alloc = book.allocator();
+    match pair_course(book, state, first, second, budget - so_far.spent)? {
+        PairCourse::Zero(run, cost) => {
+            so_far.lines.push(Line::Pair { first, second, run })?;
+            so_far.spent += cost;
+            Ok(None)
+        }
+        PairCourse::Spent(run) => {
+            so_far.lines.push(Line::Pair { first, second, run })?;
+            let spent = headed(alloc, Line::SpentPairs, &mut so_far.lines, 0)?;
+            Ok(Some(spent))
+        }
+        PairCourse::Grown(run) => Ok(Some(Named::Perform(Next::Pair { first, second, run }))),
+        PairCourse::Wide(run) => {
+            let wide = ended(alloc, Line::Wide(Next::Pair { first, second, run }))?;
+            Ok(Some(wide))
+        }
+        PairCourse::Large(limit, run) => {
+            let large = ended(alloc, Line::Large(limit, Next::Pair { first, second, run }))?;
+            Ok(Some(large))
+        }
+    }
+}
+
+/// What is named where only the critical pairs are left, if its entry holds.
+pub(crate) fn pairs_named(
+    book: &Book,
+    state: &State,
+    weight: u32,
+    budget: u32,
+) -> Result<Named, AllocError>
+    requires stands { StandsIn book.now state.now }
+    requires within { weight ≤ budget }
+    ensures entry { IfOk result (λ x. (r : RankingValue) → HasEntry r x) }
+    ensures named { IfOk result (λ x. IsOnward (setting_of book.now.ranking) budget weight
+        (state_in book.now state.now) [] weight [] (Some x)) }
+{
+    let found = pairs(book.allocator(), book, state)?;
+    let mut so_far = SoFar {
+        lines: Vec::new(book.allocator()),
+        spent: weight,
+    };
+    'pairs: for k in 0..found.len() {
+        let (first, second) = found[k];
+        if let Some(named) = one_pair(book, state, first, second, budget, &mut so_far)? {
+            return Ok(named);
+        }
+    }
+    headed(
+        book.allocator(),
+        Line::Chain,
+        &mut so_far.lines,
+        so_far.spent - weight,
+    )
+}
