@@ -118,6 +118,7 @@ fn symbol(names: &Names, text: &[u8]) -> Option<Symbol>
 pub fn read_operator(names: &Names, text: &[u8]) -> Option<Operator>
     ensures found { IfSome result (λ o. IsOperatorText names.now o text.now) }
     ensures none { IfNone result ((o : Operator) → IsOperatorText names.now o text.now → ⊥) }
+    ensures exact { result ≡ operator_at names.now text.now }
 {
     names.opened();
     operator(names, text)
@@ -127,6 +128,7 @@ pub fn read_operator(names: &Names, text: &[u8]) -> Option<Operator>
 pub fn read_symbol(names: &Names, text: &[u8]) -> Option<Symbol>
     ensures found { IfSome result (λ s. IsSymbolText names.now s text.now) }
     ensures none { IfNone result ((s : Symbol) → IsSymbolText names.now s text.now → ⊥) }
+    ensures exact { result ≡ symbol_at names.now text.now }
 {
     names.opened();
     symbol(names, text)

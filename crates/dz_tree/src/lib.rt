@@ -42,6 +42,7 @@ pub use checking::check;
 pub use closing::is_closed;
 pub use drafts::{Performed, Reached};
 pub use fault::MoveFault;
+pub use forming::{Expected, expected_after, left_after, may_stand};
 pub use line_operators::have_operators_of;
 pub use lines::{Line, Next, Verdict};
 pub use next_actions::{perform_next, perform_to};

@@ -1,0 +1,12 @@
+pub mod Stops
+pub mod Words
+pub mod LineTexts
+pub mod LineReading
+pub mod Evidence
+pub mod Documents
+pub mod Reading
+pub mod Readers
+pub mod CertFaults
+pub mod Verdicts
+pub mod Laws
+pub mod Examples
