@@ -1,6 +1,6 @@
 //! What is told of the tree of a case.
 
-ghost use Rattle.std.specs.Prelude.{◌≡◌, IfOk};
+ghost use Rattle.std.specs.Prelude.{◌≡◌};
 ghost use Rattle.dz_rank.specs.Rankings.{IsRanking};
 ghost use Rattle.dz_diff.specs.Operations.{setting_of};
 ghost use Rattle.dz_syntax.specs.Systems.{HasExpressions, tree_of};
@@ -10,12 +10,10 @@ ghost use Rattle.dz_tree.specs.Walk.{verdict_of};
 
 use crate::alone::{Alone, told_alone};
 use crate::lines::lines;
-use crate::systems::system_of;
-use crate::words::{number, split_at_first};
 use crate::working::{Working, told_working};
-use dz_poly::{Book, PolyStop};
-use dz_rank::Ranking;
-use dz_syntax::{Form, SyntaxKind, SystemTree, read_system};
+use dz_case::{CaseStop, book_for, number, read_case, split_at_first, system_of};
+use dz_poly::Book;
+use dz_syntax::{Form, SystemTree};
 use dz_tree::laws::trees_are_judged_by_line;
 use dz_tree::{System, Tree, Verdict, chains, check, have_operators_of};
 use std::alloc::{AllocError, Global};
@@ -37,44 +35,6 @@ pub(crate) struct Told {
     pub(crate) alone: Alone,
     /// How it stands to the worked tree.
     pub(crate) working: Working,
-}
-
-/// Why a case is not judged.
-#[derive(Clone, Copy, Debug, PartialEq, Eq)]
-pub(crate) enum Stop {
-    Memory,
-    /// It is no case: a line is missing, or is not what stands there, or the system passes a limit.
-    NoCase,
-}
-
-impl From<AllocError> for Stop {
-    fn from(_error: AllocError) -> Stop {
-        Stop::Memory
-    }
-}
-
-impl From<PolyStop> for Stop {
-    fn from(stop: PolyStop) -> Stop {
-        match stop {
-            PolyStop::Memory => Stop::Memory,
-            _ => Stop::NoCase,
-        }
-    }
-}
-
-/// The system of a case.
-fn system_tree(alloc: Global, text: &[u8]) -> Result<SystemTree, Stop>
-    ensures ranking { IfOk result (λ t. IsRanking
-        (record { signature = (tree_of t).signature; blocks = (tree_of t).blocks })) }
-    ensures expressions { IfOk result (λ t. HasExpressions (tree_of t)) }
-{
-    match read_system(alloc, text, Form::Plain) {
-        Ok(tree) => Ok(tree),
-        Err(fault) => match fault.kind {
-            SyntaxKind::Memory => Err(Stop::Memory),
-            _ => Err(Stop::NoCase),
-        },
-    }
 }
 
 /// The number of chains of a tree with this verdict; none where it is rejected.
@@ -105,26 +65,21 @@ fn tree_told(
     budget: u32,
     is_worked: bool,
     texts: &[&[u8]],
-) -> Result<Judgement, Stop>
+) -> Result<Judgement, CaseStop>
     requires ranking { IsRanking
         (record { signature = (tree_of case.now).signature; blocks = (tree_of case.now).blocks }) }
     requires expressions { HasExpressions (tree_of case.now) }
 {
-    let Ok(ranking) = Ranking::new(alloc, case.signature, &case.blocks) else {
-        return Err(Stop::Memory);
-    };
-    let mut book = Book::new(alloc, ranking);
-    let Some(system) = system_of(alloc, &mut book, case)? else {
-        return Err(Stop::NoCase);
-    };
+    let mut book = book_for(alloc, case)?;
+    let system = system_of(alloc, &mut book, case)?;
     let Some(lines) = lines(alloc, &case.names, texts)? else {
-        return Err(Stop::NoCase);
+        return Err(CaseStop::NoCase);
     };
     let Some(tree) = Tree::new(budget, lines) else {
         return Ok(Judgement::NoTree);
     };
     if !have_operators_of(case.signature.independents, tree.lines()) {
-        return Err(Stop::NoCase);
+        return Err(CaseStop::NoCase);
     }
     let alone = told_alone(alloc, &mut book, &system, &tree)?;
     let working = told_working(alloc, &mut book, &system, &tree, is_worked)?;
@@ -139,14 +94,14 @@ fn tree_told(
 }
 
 /// What is told of a case, by the lines after its name.
-pub(crate) fn judge(alloc: Global, texts: &[&[u8]]) -> Result<Judgement, Stop> {
+pub(crate) fn judge(alloc: Global, texts: &[&[u8]]) -> Result<Judgement, CaseStop> {
     if texts.len() < 2 {
-        return Err(Stop::NoCase);
+        return Err(CaseStop::NoCase);
     }
-    let case = system_tree(alloc, texts[0])?;
+    let case = read_case(alloc, texts[0], Form::Plain)?;
     let (first, second) = split_at_first(texts[1], b' ');
     let Some(budget) = number(first) else {
-        return Err(Stop::NoCase);
+        return Err(CaseStop::NoCase);
     };
     tree_told(
         alloc,

@@ -1,6 +1,6 @@
 //! The lines of trees, as they stand in documents.
 
-use crate::words::{place, split_at_first};
+use dz_case::{place, split_at_first};
 use dz_form::{read_operator, read_symbol};
 use dz_poly::Limit;
 use dz_step::{Step, StepList, Which};

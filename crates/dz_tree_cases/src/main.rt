@@ -12,9 +12,7 @@ mod alone;
 mod judging;
 mod lines;
 mod same;
-mod systems;
 mod telling;
-mod words;
 mod working;
 
 use crate::telling::tell_all;

@@ -1,49 +1,12 @@
 //! The lines that are written, one for each case.
 
 use crate::alone::Alone;
-use crate::judging::{Judgement, Stop, judge};
+use crate::judging::{Judgement, judge};
 use crate::working::Working;
-use dz_poly::Limit;
-use dz_tree::{Rule, Verdict};
+use dz_case::{CaseStop, limit_name, rule_name};
+use dz_tree::Verdict;
 use itoa::Buffer;
 use std::alloc::{AllocError, Global};
-
-/// The name of a rule.
-fn rule_name(rule: Rule) -> &'static [u8] {
-    match rule {
-        Rule::Place => b"place",
-        Rule::Step => b"step",
-        Rule::Large => b"large",
-        Rule::Wide => b"wide",
-        Rule::Same => b"same",
-        Rule::Weight => b"weight",
-        Rule::Pair => b"pair",
-        Rule::End => b"end",
-        Rule::Symbol => b"symbol",
-        Rule::Fork => b"fork",
-        Rule::Closed => b"closed",
-        Rule::Leader => b"leader",
-        Rule::Autoreduced => b"autoreduced",
-        Rule::Multiplier => b"multiplier",
-        Rule::Inequation => b"inequation",
-        Rule::Pairs => b"pairs",
-        Rule::Coherence => b"coherence",
-        Rule::Reason => b"reason",
-    }
-}
-
-/// The name of a limit.
-fn limit_name(limit: Limit) -> &'static [u8] {
-    match limit {
-        Limit::Order => b"order",
-        Limit::Exponent => b"exponent",
-        Limit::Symbols => b"symbols",
-        Limit::Terms => b"terms",
-        Limit::Polynomials => b"polynomials",
-        Limit::Node => b"node",
-        Limit::Splits => b"splits",
-    }
-}
 
 /// Appends a number.
 fn write_number(into: &mut Vec<u8>, number: usize) -> Result<(), AllocError> {
@@ -115,8 +78,8 @@ fn tell(alloc: Global, case: &[&[u8]], into: &mut Vec<u8>) -> Result<(), AllocEr
             write_working(into, told.working)?;
         }
         Ok(Judgement::NoTree) => into.extend_from_slice(b"no tree")?,
-        Err(Stop::NoCase) => into.extend_from_slice(b"no case")?,
-        Err(Stop::Memory) => return Err(AllocError),
+        Err(CaseStop::NoCase) => into.extend_from_slice(b"no case")?,
+        Err(CaseStop::Memory) => return Err(AllocError),
     }
     into.extend_from_slice(b"\n")
 }

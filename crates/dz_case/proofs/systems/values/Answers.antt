@@ -1,6 +1,6 @@
 use Rattle.dz_poly.proofs.Books.{kept_trans}
-use Rattle.dz_tree_cases.proofs.NewValues.{live_more}
-use Rattle.dz_tree_cases.proofs.systems.values.Goals as goal
+use Rattle.dz_case.proofs.NewValues.{live_more}
+use Rattle.dz_case.proofs.systems.values.Goals as goal
 
 pub items-preserved : goal.items-preserved
 items-preserved c =

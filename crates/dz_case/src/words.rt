@@ -2,7 +2,7 @@
 
 /// The text before the first byte of a kind, and the text behind it; all and nothing where there is
 /// no such byte.
-pub(crate) fn split_at_first(text: &[u8], mark: u8) -> (&[u8], &[u8]) {
+pub fn split_at_first(text: &[u8], mark: u8) -> (&[u8], &[u8]) {
     for k in 0..text.len() {
         if text[k] == mark {
             return (&text[..k], &text[k + 1..]);
@@ -12,7 +12,7 @@ pub(crate) fn split_at_first(text: &[u8], mark: u8) -> (&[u8], &[u8]) {
 }
 
 /// The number that fills a text; `None` where it is none, or above the greatest `u32`.
-pub(crate) fn number(text: &[u8]) -> Option<u32> {
+pub fn number(text: &[u8]) -> Option<u32> {
     if text.is_empty() {
         return None;
     }
@@ -28,7 +28,7 @@ pub(crate) fn number(text: &[u8]) -> Option<u32> {
 }
 
 /// The place that fills a text.
-pub(crate) fn place(text: &[u8]) -> Option<u16> {
+pub fn place(text: &[u8]) -> Option<u16> {
     let value = number(text)?;
     if value > 65_535 {
         return None;

@@ -1,0 +1,10 @@
+pub mod Products
+pub mod NormalForms
+pub mod Derivatives
+pub mod Preparation
+pub mod Turns
+pub mod Working
+pub mod Attempts
+pub mod Progress
+pub mod Vanishing
+pub mod Laws

@@ -1,0 +1,66 @@
+//! The cases of an input.
+
+use crate::asking::{Verb, ask};
+use dz_case::{CaseStop, number, split_at_first};
+use std::alloc::{AllocError, Global};
+
+/// The verb of a word.
+fn verb(word: &[u8]) -> Option<Verb> {
+    if word == b"normal".as_slice() {
+        return Some(Verb::Normal);
+    }
+    if word == b"vanishes".as_slice() {
+        return Some(Verb::Vanishes);
+    }
+    if word == b"prepare".as_slice() {
+        return Some(Verb::Prepare);
+    }
+    None
+}
+
+/// Appends the answers of a case, by the lines after its name.
+fn tell_answers(alloc: Global, texts: &[&[u8]], into: &mut Vec<u8>) -> Result<(), CaseStop> {
+    if texts.len() != 2 {
+        return Err(CaseStop::NoCase);
+    }
+    let (first, second) = split_at_first(texts[1], b' ');
+    let Some(verb) = verb(first) else {
+        return Err(CaseStop::NoCase);
+    };
+    let Some(budget) = number(second) else {
+        return Err(CaseStop::NoCase);
+    };
+    ask(alloc, texts[0], verb, budget, into)
+}
+
+/// Appends the lines of a case; none where there is no line of one.
+fn tell(alloc: Global, case: &[&[u8]], into: &mut Vec<u8>) -> Result<(), AllocError> {
+    let Some((name, rest)) = case.split_first() else {
+        return Ok(());
+    };
+    into.extend_from_slice(name)?;
+    into.extend_from_slice(b"\n")?;
+    match tell_answers(alloc, rest, into) {
+        Ok(()) => {}
+        Err(CaseStop::NoCase) => into.extend_from_slice(b"no case\n")?,
+        Err(CaseStop::Memory) => return Err(AllocError),
+    }
+    into.extend_from_slice(b"\n")
+}
+
+/// Appends the lines of all cases of an input.
+pub(crate) fn tell_all(alloc: Global, text: &[u8], into: &mut Vec<u8>) -> Result<(), AllocError> {
+    let mut case: Vec<&[u8]> = Vec::new(alloc);
+    for line in text.split(|byte| *byte == b'\n') {
+        if line.starts_with(b"#") {
+            continue;
+        }
+        if !line.is_empty() {
+            case.push(line)?;
+            continue;
+        }
+        tell(alloc, &case, into)?;
+        case.clear();
+    }
+    Ok(())
+}
