@@ -1,5 +1,6 @@
 -- The order of work never stands without an answer: its laws.
 use Rattle.std.specs.Prelude.{⊤}
+use Rattle.std.specs.List.{AllByRecursion}
 use Rattle.std.proofs.Common.{◌≡◌, ℕ, zero, suc, ◌+◌, ◌*◌, ◌≤◌, nat_le, true, cond, List, [], ◌∷◌, ◌++◌, refl, sym, ap, ◌∙◌, arith, subst, Result, Ok, Err, Some, None}
 use Rattle.dz_rank.specs.Rankings.{RankingValue}
 use Rattle.dz_diff.specs.Outcome.{◌>>=◌, needs, numbered}
@@ -13,7 +14,8 @@ use Rattle.dz_pair.specs.Pair.{critical_pairs}
 use Rattle.dz_tree.specs.declared.Rule.{Rule}
 use Rattle.dz_tree.specs.declared.Rule.TheVariants as rules
 use Rattle.dz_tree.specs.Chain.{Evidence, chain_rule, evidence_from}
-use Rattle.dz_tree.specs.Lines.{Line, closed, chain, Entry, lines_of}
+use Rattle.dz_tree.specs.Belonging.{IsLineOf}
+use Rattle.dz_tree.specs.Lines.{Line, closed, chain, Entry, entries_of, lines_of}
 use Rattle.dz_tree.specs.Walk.{Below, ended, nothing_below, entered}
 use Rattle.dz_engine.specs.Order.{line_alone, divide_next, reduce_next, factor_next, split_next, weed_next, pairs_next, first_of, next_entry}
 use Rattle.dz_engine.specs.Worked.{IsWorkedFrom, IsWorked, worked_from, worked_lines}
@@ -21,9 +23,10 @@ use Rattle.dz_tree.specs.Standing.{IsStateOver, MayStand}
 use Rattle.dz_engine.specs.Laws.{OrderLaws}
 use Rattle.dz_tree.proofs.KeepableStates.{keepables_over}
 use Rattle.dz_tree.proofs.StateFacts.{state_laws}
+use Rattle.dz_tree.proofs.TreeEntries.{lines_of_entries}
 use Rattle.dz_engine.proofs.RestingLines.{chain_line}
 use Rattle.dz_engine.proofs.OrderOfWork.{entries_there, next_holds, worked_grouped}
-use Rattle.dz_engine.proofs.WorkedForms.{worked_forms}
+use Rattle.dz_engine.proofs.WorkedForms.{worked_belong, worked_forms}
 
 -- a worked tree is there
 tree_there : (r : RankingValue) → r.signature.independents ≤ 4 → r.signature.dependents ≤ 16 → (budget : ℕ) → budget ≤ 20000000 → (system : System) → MayStand r system.equations system.inequations → system_limit system ≡ None
@@ -37,6 +40,13 @@ tree_there r few named budget most system stand within =
       formed = record { budget = most; lines = worked_forms r few named budget root es fine h };
       named = subst (λ (es : List Entry). IsWorkedFrom (setting_of r) budget 0 (root ∷ []) es) (sym (ap (λ (q : List Evidence × List Entry). q.1) (worked_grouped (setting_of r) budget 0 (root ∷ []) es h))) h;
     }
+
+-- its lines belong to the signature
+tree_belongs : (r : RankingValue) → r.signature.independents ≤ 4 → r.signature.dependents ≤ 16 → (budget : ℕ) (system : System) (lines : List Line) → MayStand r system.equations system.inequations → system_limit system ≡ None
+    → IsWorked (setting_of r) system (record { budget = budget; lines = lines }) → AllByRecursion (λ line. IsLineOf r.signature line) lines
+tree_belongs r few named budget system lines stand within h =
+    subst (λ (ls : List Line). AllByRecursion (λ line. IsLineOf r.signature line) ls) (lines_of_entries lines h.formed.lines)
+    (worked_belong r few named budget (root_of (symbols_under r) system) (entries_of lines) ((state_laws r few).root system stand within) h.named)
 
 -- the line at a closed state
 closed_line : (g : Setting) (budget w : ℕ) (s : State) → is_closed g.symbols s ≡ true → next_entry g budget w s ≡ line_alone closed
@@ -74,6 +84,7 @@ pub order_laws : (r : RankingValue) → r.signature.independents ≤ 4 → r.sig
 order_laws r few named budget most = record {
   holds = λ w s low h. next_holds r few budget w s h.stands h.facts low;
   is_there = tree_there r few named budget most;
+  belong = tree_belongs r few named budget;
   closed_line = λ w s e. closed_line (setting_of r) budget w s e;
   chain_line = λ w s h rest. chain_line r few budget w s (over s h) h.facts rest;
   closed_tree = λ system e. ap lines_of (closed_alone (setting_of r) budget (root_of (symbols_under r) system) e);

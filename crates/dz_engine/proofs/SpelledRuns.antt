@@ -1,7 +1,7 @@
--- The steps of full runs can be spelled.
+-- The steps of full runs can be spelled, and belong to the signature.
 use Rattle.std.specs.Prelude.{is_some}
 use Rattle.std.specs.List.{list_all, list_any}
-use Rattle.std.proofs.Common.{◌≡◌, ◌≤◌, ◌<◌, ◌-◌, ◌+◌, ◌==◌, ℕ, zero, suc, nat_lt, nat_le, sum, Bool, true, false, ◌&&◌, cond, List, [], ◌∷◌, ◌++◌, length, map, refl, ap, ◌∙◌, subst, Result, Ok, Err, Option, Some, None, arith}
+use Rattle.std.proofs.Common.{◌≡◌, ◌≤◌, ◌<◌, ◌-◌, ◌+◌, ◌==◌, ◌^◌, ℕ, zero, suc, nat_lt, nat_le, sum, Bool, true, false, ◌&&◌, cond, List, [], ◌∷◌, ◌++◌, length, map, refl, sym, ap, ◌∙◌, subst, Result, Ok, Err, Option, Some, None, arith}
 use Rattle.std.proofs.lemmas.Bool.{ltb-false, le-leb, lt-ltb}
 use Rattle.std.proofs.lemmas.List.Sums.{sum_by-cons}
 use Rattle.dz_algebra.specs.declared.Limit.{Limit}
@@ -27,9 +27,11 @@ use Rattle.dz_step.specs.declared.Step.{Step}
 use Rattle.dz_step.specs.Step.{Stop, step_in}
 use Rattle.dz_step.specs.FullRun.{derivatives_of, next_step, admits, Course, finished, stopped, passed, full_run, full_run_from}
 use Rattle.dz_step.proofs.NextSteps.{found_first, in_derivatives}
+use Rattle.dz_tree.specs.Belonging.{AreStepsOf, IsStepOf}
 use Rattle.dz_tree.specs.Forms.{is_place, is_spelled_operator, is_spelled_symbol, is_spelled_step}
 use Rattle.dz_tree.specs.Reasons.{is_empty}
-use Rattle.dz_tree.proofs.KeepableStates.{norm_keepable, step_keepable}
+use Rattle.dz_tree.proofs.KeepableStates.{keepable_over, keepables_over, norm_keepable, step_keepable}
+use Rattle.dz_tree.proofs.OverOperations.{next_fits}
 use Rattle.dz_tree.proofs.RootStates.{or_none}
 use Rattle.dz_engine.proofs.EasyRules.{and_is}
 
@@ -145,6 +147,21 @@ place_counts i x [] e = cc
 place_counts zero x (y ∷ ys) e = cc
 place_counts (suc i) x (y ∷ ys) e = omega arith
 
+-- is among the places
+place_most : {A : Type 0} (i : ℕ) (x : A) (xs : List A) → at_place i xs ≡ Some x → i ≤ length xs
+place_most i x [] e = cc
+place_most zero x (y ∷ ys) e = cc
+place_most (suc zero) x (y ∷ ys) e = omega arith
+place_most (suc (suc i)) x (y ∷ ys) e = omega (arith, place_most (suc i) x ys e)
+
+-- a place that counts from 1, up to 65,535
+abbrev pub IsNumbered : ℕ → Type 0
+IsNumbered i = (is_place i ≡ true) × (i < 2 ^ 16)
+
+-- so is one at which something stands, among at most 256
+pub numbered_place : {A : Type 0} (i : ℕ) (x : A) (xs : List A) → length xs ≤ 256 → at_place i xs ≡ Some x → IsNumbered i
+numbered_place i x xs few a = let most : i ≤ 256 = omega (arith, few, place_most i x xs a) in (lt-ltb 0 i (place_counts i x xs a), omega (arith, most))
+
 -- ---- symbols
 -- exponents less others are no more
 differences_low : (ts ss : List ℕ) → sum (exponent_differences ts ss) ≤ sum ts
@@ -196,20 +213,30 @@ module _ (r : RankingValue) (few : r.signature.independents ≤ 4) (named : r.si
       low_orders true o e = cc
       low_orders false o e = refl
 
+  -- a step that can be spelled, and belongs to the signature
+  abbrev pub IsWrittenStep : Step → Type 0
+  IsWrittenStep st = (is_spelled_step st ≡ true) × IsStepOf r.signature st
+
+  -- and such steps
+  abbrev pub AreWrittenSteps : List Step → Type 0
+  AreWrittenSteps steps = (list_all is_spelled_step steps ≡ true) × AreStepsOf r.signature steps
+
   -- the step that is next
-  pub next_spelled : (s : State) (role : Role) (f : Polynomial Symbol) (st : Step) → IsKeepable r f → next_step (setting_of r) s role f ≡ Some st → is_spelled_step st ≡ true
-  next_spelled s role f st h e =
+  next_written : (s : State) (role : Role) (f : Polynomial Symbol) (st : Step) → length s.equations ≤ 256 → AllOf (IsKeepable r) s.equations → IsKeepable r f → next_step (setting_of r) s role f ≡ Some st → IsWrittenStep st
+  next_written s role f st most all h e =
       let k = found_first r s role f IsSpelled st (derivatives_of (symbols_under r) f) e (in_derivatives (symbols_under r) IsSpelled IsSpelled (λ v i _. i) f (spelled_symbols f h)) in
       let q = k.2 in
       let low = quotient_low k.0 q.top st.operator q.quotient_is in
-      let inside = place_counts q.index q.equation s.equations q.is_there in
-      and_is (is_place st.place) (is_spelled_operator st.operator) (lt-ltb 0 st.place (omega (arith, inside, q.place_is))) (le-leb (sum (st.operator).counts) 60 (omega (arith, low, k.1.1)))
+      let place = subst IsNumbered (sym (q.place_is ∙ omega arith)) (numbered_place q.index q.equation s.equations most q.is_there) in (
+        and_is (is_place st.place) (is_spelled_operator st.operator) place.0 (le-leb (sum (st.operator).counts) 60 (omega (arith, low, k.1.1))),
+        record { place = place.1; operator = next_fits r few s role f st (keepables_over r few s.equations all) (keepable_over r few f h) e },
+      )
 
   -- ---- full runs
   -- all steps of a full run from a polynomial that may stand in a book, by equations that may
-  pub full_run_spelled : (s : State) (role : Role) (budget : ℕ) (f : Polynomial Symbol) → AllOf (IsKeepable r) s.equations → IsKeepable r f → list_all is_spelled_step (steps_in (full_run (setting_of r) s role budget f)) ≡ true
-  full_run_spelled s role budget f all h = all_spelled _ (full_run_has (setting_of r) s role budget (IsKeepable r) (λ st. is_spelled_step st ≡ true) (λ f x st k e. step_keepable r few s role f x st all k e) (λ f st k e. next_spelled s role f st k e) f (norm_keepable r few f h))
+  pub full_run_written : (s : State) (role : Role) (budget : ℕ) (f : Polynomial Symbol) → length s.equations ≤ 256 → AllOf (IsKeepable r) s.equations → IsKeepable r f → AreWrittenSteps (steps_in (full_run (setting_of r) s role budget f))
+  full_run_written s role budget f most all h = all_written _ (full_run_has (setting_of r) s role budget (IsKeepable r) IsWrittenStep (λ f x st k e. step_keepable r few s role f x st all k e) (λ f st k e. next_written s role f st most all k e) f (norm_keepable r few f h))
     where
-      all_spelled : (steps : List Step) → AllOf (λ st. is_spelled_step st ≡ true) steps → list_all is_spelled_step steps ≡ true
-      all_spelled [] k = refl
-      all_spelled (st ∷ steps) k = and_is (is_spelled_step st) (list_all is_spelled_step steps) k.0 (all_spelled steps k.1)
+      all_written : (steps : List Step) → AllOf IsWrittenStep steps → AreWrittenSteps steps
+      all_written [] k = (refl, tt)
+      all_written (st ∷ steps) k = let more = all_written steps k.1 in (and_is (is_spelled_step st) (list_all is_spelled_step steps) k.0.0 more.0, (k.0.1, more.1))

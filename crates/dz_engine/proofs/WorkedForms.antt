@@ -1,14 +1,16 @@
--- The lines of a worked tree form one tree.
+-- The lines of a worked tree form one tree, and belong to the signature.
 use Rattle.std.specs.Prelude.{MatchResult}
-use Rattle.std.specs.List.{list_all}
+use Rattle.std.specs.List.{AllByRecursion, list_all}
 use Rattle.std.proofs.Common.{◌≡◌, ◌≤◌, ◌+◌, ◌∙◌, ℕ, suc, Bool, true, false, ◌&&◌, cond, List, [], ◌∷◌, ◌++◌, length, length-append, refl, sym, ap, subst, Result, Ok, Err, arith, append-nil}
 use Rattle.std.proofs.lemmas.List.{append_assoc}
 use Rattle.dz_rank.specs.Rankings.{RankingValue}
+use Rattle.dz_rank.specs.declared.rankings.Signature.{Signature}
 use Rattle.dz_diff.specs.Lists.{AllOf}
 use Rattle.dz_diff.specs.Operations.{Setting, setting_of}
 use Rattle.dz_diff.specs.State.{State}
 use Rattle.dz_diff.proofs.Places.{all-append}
 use Rattle.dz_tree.specs.declared.Rule.{Rule}
+use Rattle.dz_tree.specs.Belonging.{IsLineOf}
 use Rattle.dz_tree.specs.Chain.{Evidence}
 use Rattle.dz_tree.specs.Forms.{Node, end, move, fork, lines_in, is_end_with, is_spelled, IsOrdered, FormTree}
 use Rattle.dz_tree.specs.Lines.{Line, act, closed, chain, pair, spent, spent_pairs, open_wide, open_separant, open_large, Entry, lines_of, lines_of_entry}
@@ -70,6 +72,11 @@ all_appended (x ∷ xs) ys h k = by_test (is_spelled x) h (λ i. all_appended xs
     by_test true h ih = ih h
     by_test false h ih = h
 
+-- lines of a signature, and more of them
+all_belong : (n : Signature) (xs ys : List Line) → AllByRecursion (λ line. IsLineOf n line) xs → AllByRecursion (λ line. IsLineOf n line) ys → AllByRecursion (λ line. IsLineOf n line) (xs ++ ys)
+all_belong n [] ys h k = k
+all_belong n (x ∷ xs) ys h k = (h.0, all_belong n xs ys h.1 k)
+
 -- ---- an entry before trees
 module _ (g : Setting) (budget w : ℕ) (s : State) (n : ℕ) (lines : List Line) where
   -- an end leaves no state below
@@ -94,20 +101,21 @@ module _ (g : Setting) (budget w : ℕ) (s : State) (n : ℕ) (lines : List Line
 
 -- ---- the tree
 module _ (r : RankingValue) (few : r.signature.independents ≤ 4) (named : r.signature.dependents ≤ 16) (budget : ℕ) where
-  -- the lines are those of so many trees, and can be spelled
+  -- the lines are those of so many trees, can be spelled, and belong to the signature
   record AreWorked (n : ℕ) (lines : List Line) : Type 0 where
     trees : HasTrees n lines
     spelled : list_all is_spelled lines ≡ true
+    belong : AllByRecursion (λ line. IsLineOf r.signature line) lines
 
   -- worked entries have one tree for each pending state
   worked_trees : (w : ℕ) (pending : List State) (es : List Entry) → w ≤ budget → AllOf (IsStateOver r) pending → IsWorkedFrom (setting_of r) budget w pending es → AreWorked (length pending) (lines_of es)
-  worked_trees w [] [] low fine h = record { trees = record { trees = []; count = refl; ordered = tt; are = refl }; spelled = refl }
+  worked_trees w [] [] low fine h = record { trees = record { trees = []; count = refl; ordered = tt; are = refl }; spelled = refl; belong = tt }
   worked_trees w [] (e ∷ es) low fine h = absurd h
   worked_trees w (s ∷ pending) [] low fine h = absurd h
   worked_trees w (s ∷ pending) (e ∷ es) low fine h = by_answer (entered (setting_of r) budget w s e.line e.evidence) refl (λ b l k i. worked_trees (w + b.weight) (b.states ++ pending) es l k i) h.1
     where
-      formed : IsFormed e
-      formed = subst IsFormed (sym h.0) (next_formed r few named budget w s fine.0 low)
+      formed : IsFormed r.signature e
+      formed = subst (IsFormed r.signature) (sym h.0) (next_formed r few named budget w s fine.0 low)
 
       by_answer : (q : Result Below (ℕ × Rule)) → entered (setting_of r) budget w s e.line e.evidence ≡ q
           → ((b : Below) → w + b.weight ≤ budget → AllOf (IsStateOver r) (b.states ++ pending) → IsWorkedFrom (setting_of r) budget (w + b.weight) (b.states ++ pending) es → AreWorked (length (b.states ++ pending)) (lines_of es))
@@ -119,6 +127,7 @@ module _ (r : RankingValue) (few : r.signature.independents ≤ 4) (named : r.si
           record {
             trees = before (setting_of r) budget w s (length pending) (lines_of es) e.line e.evidence b f formed.placed (subst (λ m. HasTrees m (lines_of es)) (length-append b.states pending) more.trees);
             spelled = all_appended (lines_of_entry e) (lines_of es) formed.spelled more.spelled;
+            belong = all_belong r.signature (lines_of_entry e) (lines_of es) formed.belong more.belong;
           }
 
   -- the worked lines from one state form one tree
@@ -129,3 +138,7 @@ module _ (r : RankingValue) (few : r.signature.independents ≤ 4) (named : r.si
       by_trees [] c o a e = absurd (omega (arith, c))
       by_trees (t ∷ []) c o a e = record { tree = t; ordered = o.0; are = sym (append-nil (lines_in t)) ∙ a; spelled = e }
       by_trees (t ∷ u ∷ ts) c o a e = absurd (omega (arith, c))
+
+  -- and belong to the signature
+  pub worked_belong : (s : State) (es : List Entry) → IsStateOver r s → IsWorkedFrom (setting_of r) budget 0 (s ∷ []) es → AllByRecursion (λ line. IsLineOf r.signature line) (lines_of es)
+  worked_belong s es fine h = (worked_trees 0 (s ∷ []) es (omega arith) (fine, tt) h).belong

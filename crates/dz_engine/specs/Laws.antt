@@ -1,5 +1,6 @@
 -- The laws of worked trees; the crate's law functions ask for their proofs.
 use Rattle.std.specs.Prelude.{◌≡◌, ◌≤◌, ◌+◌, ◌*◌, ℕ, true, List, [], ◌∷◌, None}
+use Rattle.std.specs.List.{AllByRecursion}
 use Rattle.dz_rank.specs.Rankings.{RankingValue}
 use Rattle.dz_diff.specs.Operations.{Setting, setting_of}
 use Rattle.dz_terms.specs.Ranked.{symbols_under}
@@ -7,6 +8,7 @@ use Rattle.dz_tree.specs.Root.{System, is_closed, root_of}
 use Rattle.dz_diff.specs.State.{State}
 use Rattle.dz_tree.specs.Systems.{system_limit}
 use Rattle.dz_tree.specs.Standing.{IsStateOver, MayStand}
+use Rattle.dz_tree.specs.Belonging.{IsLineOf}
 use Rattle.dz_tree.specs.Lines.{Line, closed, chain}
 use Rattle.dz_tree.specs.Walk.{Tree}
 use Rattle.dz_tree.specs.Certified.{IsCertified}
@@ -27,6 +29,9 @@ pub record OrderLaws (r : RankingValue) (budget : ℕ) : Type 0 where
   -- for a system whose polynomials may stand in a book, within its limits, there is a worked tree, found in so many rounds
   pub is_there : (system : System) → MayStand r system.equations system.inequations → system_limit system ≡ None
       → IsWorked (setting_of r) system (record { budget = budget; lines = worked_lines (setting_of r) budget (2 * budget + 1) system })
+  -- each line of a worked tree belongs to the signature
+  pub belong : (system : System) (lines : List Line) → MayStand r system.equations system.inequations → system_limit system ≡ None → IsWorked (setting_of r) system (record { budget = budget; lines = lines })
+      → AllByRecursion (λ line. IsLineOf r.signature line) lines
   -- the line at a closed state is `closed`, and at a state at rest `chain`, at every running weight
   pub closed_line : (w : ℕ) (s : State) → is_closed (symbols_under r) s ≡ true → next_entry (setting_of r) budget w s ≡ line_alone closed
   pub chain_line : (w : ℕ) (s : State) → IsStateOver r s → IsAtRest (setting_of r) s → next_entry (setting_of r) budget w s ≡ line_alone chain

@@ -1,11 +1,13 @@
 //! The worked tree of a system.
 
 ghost use Rattle.std.specs.Prelude.{◌≡◌, ◌≤◌, [], ◌∷◌, IfOk, OnOk};
+ghost use Rattle.std.specs.List.{AllByRecursion};
 ghost use Rattle.dz_poly.specs.Books.{IsKept};
 ghost use Rattle.dz_terms.specs.Ranked.{symbols_under};
 ghost use Rattle.dz_diff.specs.Lists.{AllOf};
 ghost use Rattle.dz_diff.specs.Operations.{setting_of};
 ghost use Rattle.dz_diff.specs.States.{IsStateOf, StandsIn, state_in};
+ghost use Rattle.dz_tree.specs.Belonging.{IsLineOf};
 ghost use Rattle.dz_tree.specs.Systems.{IsSystemIn, system_in};
 ghost use Rattle.dz_engine.specs.Naming.{AfterStands, after_in};
 ghost use Rattle.dz_engine.specs.Turning.{ArePushed, AreWorkedLines, IsTurn};
@@ -141,6 +143,8 @@ pub fn decompose(
     ensures worked { IfOk result (λ t. IsWorked (setting_of book.old.ranking)
         (system_in book.old system.now) t) }
     ensures budget { IfOk result (λ t. t.budget ≡ budget) }
+    ensures belong { IfOk result (λ t.
+        AllByRecursion (λ line. IsLineOf book.old.ranking.signature line) t.lines) }
     ensures book { book.new ≡ book.old }
 {
     // The facts of all books are known of this one: a ranking has few independents and dependents.

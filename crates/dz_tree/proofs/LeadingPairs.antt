@@ -6,7 +6,7 @@ use Rattle.dz_diff.specs.Lists.{AllOf}
 use Rattle.dz_tree.specs.declared.lines.Line.{Line as ProgramLine}
 use Rattle.dz_tree.specs.Chain.{Evidence}
 use Rattle.dz_tree.specs.EvidenceLines.{evidence_of, is_pair_line}
-use Rattle.dz_tree.specs.LineOperators.{AreStepsOf, HaveOperatorsOf, steps_in}
+use Rattle.dz_tree.specs.LineOperators.{DeriveAlong, HaveOperatorsOf, steps_in}
 use Rattle.dz_tree.specs.Lines.{Line, act, closed, chain, pair, spent, spent_pairs, open_wide, open_separant, open_large, grouped}
 use Rattle.dz_tree.specs.TreeLines.{line_of}
 
@@ -50,7 +50,7 @@ module _ (lines : List ProgramLine) (n : ℕ) (count : n ≡ length (grouped (ma
 
 -- operators of some of the lines
 pub front_operators : (lines : List ProgramLine) (n k : ℕ) → HaveOperatorsOf k (map line_of lines) → HaveOperatorsOf k (map line_of (take n lines))
-front_operators lines n k h = subst (HaveOperatorsOf k) (take-map line_of n lines) (front_all (λ (line : Line). AreStepsOf k (steps_in line)) n (map line_of lines) h)
+front_operators lines n k h = subst (HaveOperatorsOf k) (take-map line_of n lines) (front_all (λ (line : Line). DeriveAlong k (steps_in line)) n (map line_of lines) h)
 
 -- there is no more evidence than lines
 evidence_few : (ls : List Line) → length (evidence_of ls) ≤ length ls

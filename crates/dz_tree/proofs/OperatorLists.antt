@@ -5,7 +5,7 @@ use Rattle.std.proofs.Math.Seq.{drop-cons}
 use Rattle.std.proofs.lemmas.List.Elements.{All-cons, All-tail}
 use Rattle.dz_rank.specs.Symbols.{IsOperatorOf}
 use Rattle.dz_step.specs.declared.Step.{Step}
-use Rattle.dz_tree.specs.LineOperators.{AreStepsOf}
+use Rattle.dz_tree.specs.LineOperators.{DeriveAlong}
 use Rattle.dz_tree.proofs.StepLists.{at_step}
 
 -- a direction without a derivation
@@ -18,7 +18,7 @@ zero_passed P counts k inside none same =
     ((λ h. same.0 (subst (All (λ n. n ≡ 0)) (sym here) (All-cons (λ n. n ≡ 0) 0 rest zero_here h))), (λ p. All-tail (λ n. n ≡ 0) 0 rest (subst (All (λ n. n ≡ 0)) here (same.1 p))))
 
 -- a step whose operator belongs to the signature
-pub step_passed : (n : ℕ) (P : Type 0) (steps : List Step) (k : ℕ) (st : Step) → slice_get steps k ≡ Some st → k < length steps → IsOperatorOf n st.operator → AreStepsOf n (drop k steps) ↔ P → AreStepsOf n (drop (k + 1) steps) ↔ P
+pub step_passed : (n : ℕ) (P : Type 0) (steps : List Step) (k : ℕ) (st : Step) → slice_get steps k ≡ Some st → k < length steps → IsOperatorOf n st.operator → DeriveAlong n (drop k steps) ↔ P → DeriveAlong n (drop (k + 1) steps) ↔ P
 step_passed n P steps k st there inside is_of same =
     let here = at_step steps k st there inside in
-    ((λ h. same.0 (subst (AreStepsOf n) (sym here) (is_of, h))), (λ p. (subst (AreStepsOf n) here (same.1 p)).1))
+    ((λ h. same.0 (subst (DeriveAlong n) (sym here) (is_of, h))), (λ p. (subst (DeriveAlong n) here (same.1 p)).1))

@@ -28,7 +28,7 @@ use Rattle.dz_tree.specs.Chain.{Evidence, evidence_weight, is_below, passes}
 use Rattle.dz_tree.specs.ChainParts.{IsForPair}
 use Rattle.dz_tree.specs.Entering.{IsEntryFault, entry_fault, rule_in}
 use Rattle.dz_tree.specs.Fault.{Fault, refusal, rule, rule_of, rule_of_refusal, run_fault}
-use Rattle.dz_tree.specs.LineOperators.{AreStepsOf}
+use Rattle.dz_tree.specs.LineOperators.{DeriveAlong}
 use Rattle.dz_tree.specs.Parts.{DeltaRun, delta_run}
 use Rattle.dz_tree.proofs.LowRuns.{coherent}
 use Rattle.dz_tree.proofs.RootFacts.{all_over}
@@ -104,7 +104,7 @@ module _ (g : Setting) (s : State) (e : Evidence) (p q : Polynomial Symbol) (fir
 
 -- the steps of a run are below the common derivative
 pub run_below : (book : BookValue) → book.ranking.signature.independents ≤ 4 → IsBook book → (s : StateValue) → StandsIn book s → (e : Evidence) (p q : Polynomial Symbol)
-    (a : at_place e.first (state_in book s).equations ≡ Some p) (b : at_place e.second (state_in book s).equations ≡ Some q) → is_pair (symbols_under book.ranking) p q ≡ true → AreStepsOf book.ranking.signature.independents e.steps
+    (a : at_place e.first (state_in book s).equations ≡ Some p) (b : at_place e.second (state_in book s).equations ≡ Some q) → is_pair (symbols_under book.ranking) p q ≡ true → DeriveAlong book.ranking.signature.independents e.steps
     → (x : DeltaRun) → from_delta (setting_of book.ranking) (state_in book s) e p q a b ≡ Ok x → are_below (setting_of book.ranking) (state_in book s) e p q a b ≡ true
 run_below book few whole s stands e p q a b one operators x ran =
     let r = book.ranking in

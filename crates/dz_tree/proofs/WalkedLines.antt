@@ -22,7 +22,7 @@ use Rattle.dz_tree.specs.Chain.{Evidence}
 use Rattle.dz_tree.specs.Counting.{form_trees, lets_line, may_stand}
 use Rattle.dz_tree.specs.EvidenceLines.{is_pair_line}
 use Rattle.dz_tree.specs.Forms.{FormTree, is_spelled}
-use Rattle.dz_tree.specs.LineOperators.{AreStepsOf, HaveOperatorsOf, steps_in}
+use Rattle.dz_tree.specs.LineOperators.{DeriveAlong, HaveOperatorsOf, steps_in}
 use Rattle.dz_tree.specs.Lines.{Line, act, closed, chain, pair, spent, spent_pairs, open_wide, open_separant, open_large, entries_of, grouped}
 use Rattle.dz_tree.specs.Pending.{PendingValue, pending_states}
 use Rattle.dz_tree.specs.TreeLines.{line_of}
@@ -49,7 +49,7 @@ map_behind f (suc k) [] = refl
 map_behind f (suc k) (x ∷ xs) = map_behind f k xs
 
 pub operators_behind : (n : ℕ) (lines : List ProgramLine) (k : ℕ) → HaveOperatorsOf n (map line_of lines) → HaveOperatorsOf n (map line_of (drop k lines))
-operators_behind n lines k h = subst (HaveOperatorsOf n) (sym (map_behind line_of k lines)) (all_behind (λ (line : Line). AreStepsOf n (steps_in line)) k (map line_of lines) h)
+operators_behind n lines k h = subst (HaveOperatorsOf n) (sym (map_behind line_of k lines)) (all_behind (λ (line : Line). DeriveAlong n (steps_in line)) k (map line_of lines) h)
 
 -- the lines behind a place, as they are handed on
 behind_is : (lines : List ProgramLine) (k : ℕ) → take (length lines - k) (drop k lines) ≡ drop k lines

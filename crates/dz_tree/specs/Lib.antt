@@ -12,6 +12,7 @@ pub mod Certified
 pub mod TreeLines
 pub mod Counting
 pub mod LineOperators
+pub mod Belonging
 pub mod Actions
 pub mod KnownEnds
 pub mod Entering

@@ -16,9 +16,9 @@ steps_in (open_large limit action) = steps_of action
 steps_in line = []
 
 -- the steps derive in the directions of n independents alone
-abbrev pub AreStepsOf : ℕ → List Step → Type 0
-AreStepsOf n steps = AllOf (λ (st : Step). IsOperatorOf n st.operator) steps
+abbrev pub DeriveAlong : ℕ → List Step → Type 0
+DeriveAlong n steps = AllOf (λ (st : Step). IsOperatorOf n st.operator) steps
 
 -- and so do the steps of all lines
 abbrev pub HaveOperatorsOf : ℕ → List Line → Type 0
-HaveOperatorsOf n lines = AllOf (λ line. AreStepsOf n (steps_in line)) lines
+HaveOperatorsOf n lines = AllOf (λ line. DeriveAlong n (steps_in line)) lines

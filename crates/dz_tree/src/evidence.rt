@@ -11,7 +11,7 @@ ghost use Rattle.dz_tree.specs.Chain.{Evidence, chain_weight, evidence_from, evi
 ghost use Rattle.dz_tree.specs.ChainParts.{IsForPair, IsRunWeight, is_within};
 ghost use Rattle.dz_tree.specs.Entering.{IsEntryFault, entry_fault};
 ghost use Rattle.dz_tree.specs.EvidenceLines.{evidence_of, is_pair_line};
-ghost use Rattle.dz_tree.specs.LineOperators.{AreStepsOf, HaveOperatorsOf, steps_in};
+ghost use Rattle.dz_tree.specs.LineOperators.{DeriveAlong, HaveOperatorsOf, steps_in};
 ghost use Rattle.dz_tree.specs.Lines.{pair};
 ghost use Rattle.dz_tree.specs.TreeLines.{line_of};
 
@@ -56,7 +56,7 @@ fn run_weight(
     requires stands { StandsIn book.now state.now }
     requires pair { IsForPair (symbols_under book.now.ranking) (state_in book.now state.now).equations
         (record { first = first; second = second; steps = run.now }) }
-    requires operators { AreStepsOf book.now.ranking.signature.independents run.now }
+    requires operators { DeriveAlong book.now.ranking.signature.independents run.now }
     ensures ok { IfOk result (λ w. IsRunWeight w (evidence_weight (setting_of book.now.ranking)
         (state_in book.now state.now)
         (record { first = first; second = second; steps = run.now }))) }
@@ -93,7 +93,7 @@ fn line_weight(book: &Book, state: &State, number: usize, line: &Line) -> Result
     requires pair { is_pair_line (line_of line.now) ≡ true }
     requires places { (e : Evidence) → line_of line.now ≡ pair e
         → IsForPair (symbols_under book.now.ranking) (state_in book.now state.now).equations e }
-    requires operators { AreStepsOf book.now.ranking.signature.independents
+    requires operators { DeriveAlong book.now.ranking.signature.independents
         (steps_in (line_of line.now)) }
     ensures ok { IfOk result (λ w. (e : Evidence) → line_of line.now ≡ pair e → IsRunWeight w
         (evidence_weight (setting_of book.now.ranking) (state_in book.now state.now) e)) }

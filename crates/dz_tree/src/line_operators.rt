@@ -2,7 +2,7 @@
 
 ghost use Rattle.std.specs.Prelude.{◌↔◌, IsTrue, map};
 ghost use Rattle.dz_rank.specs.Symbols.{IsOperatorOf};
-ghost use Rattle.dz_tree.specs.LineOperators.{AreStepsOf, HaveOperatorsOf, steps_in};
+ghost use Rattle.dz_tree.specs.LineOperators.{DeriveAlong, HaveOperatorsOf, steps_in};
 ghost use Rattle.dz_tree.specs.Moves.{steps_of};
 ghost use Rattle.dz_tree.specs.TreeLines.{action_of, line_of};
 
@@ -24,7 +24,7 @@ fn is_operator_of(independents: u8, operator: Operator) -> bool
 
 /// Whether the operators of all steps of a run do.
 fn are_steps_of(independents: u8, run: &StepList) -> bool
-    ensures { IsTrue result ↔ AreStepsOf independents run.now }
+    ensures { IsTrue result ↔ DeriveAlong independents run.now }
 {
     'steps: for k in 0..run.len() {
         if !is_operator_of(independents, run.get(k).operator) {
@@ -36,7 +36,7 @@ fn are_steps_of(independents: u8, run: &StepList) -> bool
 
 /// Whether those of what an open end names do.
 fn is_next_of(independents: u8, next: &Next) -> bool
-    ensures { IsTrue result ↔ AreStepsOf independents (steps_of (action_of next.now)) }
+    ensures { IsTrue result ↔ DeriveAlong independents (steps_of (action_of next.now)) }
 {
     match next {
         Next::Reduce { place: _, run } | Next::Weed { place: _, run } => {
@@ -49,7 +49,7 @@ fn is_next_of(independents: u8, next: &Next) -> bool
 
 /// Whether those of a line do.
 fn is_line_of(independents: u8, line: &Line) -> bool
-    ensures { IsTrue result ↔ AreStepsOf independents (steps_in (line_of line.now)) }
+    ensures { IsTrue result ↔ DeriveAlong independents (steps_in (line_of line.now)) }
 {
     match line {
         Line::Reduce { place: _, run } | Line::Weed { place: _, run } => {

@@ -4,7 +4,7 @@ use Rattle.dz_terms.specs.Ranked.{symbols_under}
 use Rattle.dz_diff.specs.Operations.{setting_of}
 use Rattle.dz_diff.specs.States.{state_in}
 use Rattle.dz_tree.specs.ChainParts.{IsForPair, is_within}
-use Rattle.dz_tree.specs.LineOperators.{AreStepsOf, steps_in}
+use Rattle.dz_tree.specs.LineOperators.{DeriveAlong, steps_in}
 use Rattle.dz_tree.proofs.ChainRules.{evidence_here, line_is_pair}
 use Rattle.dz_tree.proofs.ChainWeights.{evidence_has, line_has, past_left, run_costs, run_counts, run_fails, within_left}
 use Rattle.dz_tree.proofs.evidence.runs_weight.Goals as goal
@@ -19,7 +19,7 @@ line_weight-requires-clause-places c =
 
 pub line_weight-requires-clause-operators : goal.line_weight-requires-clause-operators
 line_weight-requires-clause-operators c =
-    line_has (λ line. AreStepsOf c.args.book.now.ranking.signature.independents (steps_in line)) c.args.evidence.now c.lines.k c.index-evidence-k.result c.requires.operators c.lines-test.true c.index-evidence-k.is
+    line_has (λ line. DeriveAlong c.args.book.now.ranking.signature.independents (steps_in line)) c.args.evidence.now c.lines.k c.index-evidence-k.result c.requires.operators c.lines-test.true c.index-evidence-k.is
 
 pub returns-in_err-weight-clause-refused : goal.returns-in_err-weight-clause-refused
 returns-in_err-weight-clause-refused c =
