@@ -14,7 +14,10 @@ pub mod FactorMultiples
 pub mod DerivativeAnswers
 pub mod IdentitySides
 pub mod TermOrders
+pub mod TurnWalks
 pub mod Preparations
+pub mod PreparedOperators
 pub mod NextTurns
 pub mod NormalEnds
 pub mod HeldPreparations
+pub mod HeldOperators

@@ -1,6 +1,6 @@
 -- Each turn keeps a partial preparation, so the turns make one.
 use Rattle.std.specs.declared.cmp.Ordering.{Ordering}
-use Rattle.std.proofs.Common.{◌≡◌, ◌<◌, ◌≤◌, ◌∙◌, ◌++◌, ◌+◌, ◌-◌, inr, ℕ, zero, suc, nat_lt, Bool, true, false, cond, List, [], ◌∷◌, pos, refl, sym, ap, ap₂, subst, arith, Ok, Err, Some, None, Option, Result}
+use Rattle.std.proofs.Common.{◌≡◌, ◌<◌, ◌≤◌, ◌∙◌, ◌++◌, ◌-◌, inr, ℕ, Bool, true, false, cond, List, [], ◌∷◌, pos, refl, sym, ap, ap₂, subst, arith, Ok, Some, None, Option}
 use Rattle.std.specs.Prelude.{⊤, is_some}
 use Rattle.std.proofs.lemmas.Bool.{leb-true}
 use Rattle.std.proofs.lemmas.List.{append_assoc}
@@ -38,15 +38,15 @@ use Rattle.dz_diff.proofs.Places.{taken, all-append, all_parts}
 use Rattle.dz_step.specs.declared.Role.TheVariants.{Free}
 use Rattle.dz_step.specs.declared.Step.{Step}
 use Rattle.dz_step.specs.FullRun.{admits, derivatives_of, next_step}
-use Rattle.dz_step.specs.Step.{Reduction, Stop, refused, is_allowed, is_permitted, multiplier_answer, multiplier_of, permitted_if, reduction_at, step_degree}
+use Rattle.dz_step.specs.Step.{Reduction, refused, is_allowed, is_permitted, multiplier_answer, multiplier_of, permitted_if, reduction_at, step_degree}
 use Rattle.dz_step.proofs.NextSteps.{found_first}
 use Rattle.dz_step.proofs.StepParts.{at_least_one, common}
 use Rattle.dz_step.proofs.TakenSteps.{TakenReduction, ReductionParts, derivative_in, good_multiplier, leader_is_derivative, reduction_parts, taken_reduction}
 use Rattle.dz_ask.specs.Derivatives.{derivative_at}
 use Rattle.dz_ask.specs.Laws.{PreparationLaws}
-use Rattle.dz_ask.specs.Preparation.{HasEquation, HasIdentity, IsFactor, IsPartialPreparation, IsReduced, Prepared, Term}
+use Rattle.dz_ask.specs.Preparation.{HasEquation, HasIdentity, IsFactor, IsPartialPreparation, Prepared, Term}
 use Rattle.dz_ask.specs.Products.{Product, raised_product, step_cmp, turned_round}
-use Rattle.dz_ask.specs.Turns.{Turn, Course, finished, stopped, passed, added, coefficient_terms, multiplied, next_turn, next_turn_after, nonzero_terms, preparation, preparation_from, turn_answer, turned_terms, unprepared, with_factor}
+use Rattle.dz_ask.specs.Turns.{Turn, added, multiplied, next_turn, next_turn_after, nonzero_terms, preparation, turn_answer, turned_terms, unprepared, with_factor}
 use Rattle.dz_ask.proofs.DerivativeAnswers.{derivative_is}
 use Rattle.dz_ask.proofs.FactorMultiples.{divided_multiple}
 use Rattle.dz_ask.proofs.IdentitySides.{left_canonical, of_product_of, of_sum_of, right_canonical, ring, same_by_value}
@@ -54,6 +54,7 @@ use Rattle.dz_ask.proofs.RingValues.{val, of_product, value_difference, value_pr
 use Rattle.dz_ask.proofs.RaisedProducts.{raised_is}
 use Rattle.dz_ask.proofs.StepOrder.{step_order, turned_order}
 use Rattle.dz_ask.proofs.TermOrders.{products_of, products-append, falling_products, all_products, falling_nonzero, all_nonzero, none_zero, products_multiplied, all_multiplied, falling_added, all_added}
+use Rattle.dz_ask.proofs.TurnWalks.{HasCome, walked}
 use Rattle.dz_ask.proofs.TurnValues.{total, total-append, total_multiplied, total_added, total_nonzero, multiplier, multiplier_with, product_raised, turned}
 
 -- ---- where a turn is
@@ -85,6 +86,44 @@ module _ (r : RankingValue) (s : State) where
       by_step more (Some st) n e = cc
       by_step more None n e = (ap is_some n, more e)
 
+  -- what a turn computes
+  pub record TakenTurn (x : Prepared) (t : Turn) (y : Prepared) : Type 0 where
+    pub reduction : Reduction
+    pub reduction_is : reduction_at (setting_of r) s t.coefficient t.step ≡ Ok reduction
+    pub before : List Term
+    pub before_is : multiplied (symbols_under r) reduction.factor t.before ≡ Ok before
+    pub behind : List Term
+    pub behind_is : multiplied (symbols_under r) reduction.factor t.behind ≡ Ok behind
+    pub product : Product
+    pub product_is : raised_product t.step t.product ≡ Ok product
+    pub terms : List Term
+    pub terms_are : added (symbols_under r) product reduction.shift (before ++ (t.product, reduction.rest) ∷ behind) ≡ Ok terms
+    pub made : record { factors = with_factor (symbols_under r) reduction.factor x.factors; terms = nonzero_terms terms } ≡ y
+
+  -- the parts of a turn that answers
+  pub taken_turn : (x : Prepared) (t : Turn) (y : Prepared) → turn_answer (setting_of r) s x t ≡ Ok y → TakenTurn x t y
+  taken_turn x t y e =
+      let g = symbols_under r in
+      let z = bind_ok (turned_terms (setting_of r) s t) _ y e in
+      let a = bind_ok (reduction_at (setting_of r) s t.coefficient t.step) _ z.0 z.1 in
+      let b = bind_ok (told_as refused (multiplied g a.0.factor t.before)) _ z.0 a.2 in
+      let c = bind_ok (told_as refused (multiplied g a.0.factor t.behind)) _ z.0 b.2 in
+      let d = bind_ok (told_as refused (raised_product t.step t.product)) _ z.0 c.2 in
+      let h = bind_ok (told_as refused (added g d.0 a.0.shift (b.0 ++ (t.product, a.0.rest) ∷ c.0))) _ z.0 d.2 in
+      record {
+        reduction = a.0;
+        reduction_is = a.1;
+        before = b.0;
+        before_is = told_ok refused (multiplied g a.0.factor t.before) b.0 b.1;
+        behind = c.0;
+        behind_is = told_ok refused (multiplied g a.0.factor t.behind) c.0 c.1;
+        product = d.0;
+        product_is = told_ok refused (raised_product t.step t.product) d.0 d.1;
+        terms = h.0;
+        terms_are = told_ok refused (added g d.0 a.0.shift (b.0 ++ (t.product, a.0.rest) ∷ c.0)) h.0 h.1;
+        made = ap (λ (w : Polynomial Symbol × List Term). record { factors = with_factor g w.0 x.factors; terms = w.1 }) (ok_same (a.0.factor, nonzero_terms h.0) z.0 h.2) ∙ ok_same (record { factors = with_factor g z.0.0 x.factors; terms = z.0.1 }) y z.2;
+      }
+
 -- ---- what the reduction of a turn is
 module _ (r : RankingValue) (s : State) (equations : (j : ℕ) (q : Polynomial Symbol) → at_place j s.equations ≡ Some q → Good r q) where
   -- the order of symbols
@@ -100,7 +139,7 @@ module _ (r : RankingValue) (s : State) (equations : (j : ℕ) (q : Polynomial S
     pub parts : ReductionParts r f reduced.derivative reduced.times (derivative_by st.operator reduced.top) (degree (ranking_cmp r) (derivative_by st.operator reduced.top) f) (step_degree (symbols_under r) st.operator reduced.top divisor) y
 
   -- a reduction that answers is one
-  reduced_at : (f : Polynomial Symbol) (st : Step) (y : Reduction) → reduction_at (setting_of r) s f st ≡ Ok y → ReducedAt f st y
+  pub reduced_at : (f : Polynomial Symbol) (st : Step) (y : Reduction) → reduction_at (setting_of r) s f st ≡ Ok y → ReducedAt f st y
   reduced_at f st y e =
       let a = given_then (at_place st.place s.equations) _ _ y e in
       let k = taken_reduction r f a.0 st.operator y a.2 in
@@ -315,45 +354,7 @@ module _ (r : RankingValue) (s : State) (f : Polynomial Symbol) (equations : (j 
       by_test true = k
       by_test false = all-append P fs (a ∷ []) k (h, tt)
 
-  -- what a turn computes
-  record TakenTurn (x : Prepared) (t : Turn) (y : Prepared) : Type 0 where
-    pub reduction : Reduction
-    pub reduction_is : reduction_at (setting_of r) s t.coefficient t.step ≡ Ok reduction
-    pub before : List Term
-    pub before_is : multiplied (symbols_under r) reduction.factor t.before ≡ Ok before
-    pub behind : List Term
-    pub behind_is : multiplied (symbols_under r) reduction.factor t.behind ≡ Ok behind
-    pub product : Product
-    pub product_is : raised_product t.step t.product ≡ Ok product
-    pub terms : List Term
-    pub terms_are : added (symbols_under r) product reduction.shift (before ++ (t.product, reduction.rest) ∷ behind) ≡ Ok terms
-    pub made : record { factors = with_factor (symbols_under r) reduction.factor x.factors; terms = nonzero_terms terms } ≡ y
-
-  -- the parts of a turn that answers
-  taken_turn : (x : Prepared) (t : Turn) (y : Prepared) → turn_answer (setting_of r) s x t ≡ Ok y → TakenTurn x t y
-  taken_turn x t y e =
-      let g = symbols_under r in
-      let z = bind_ok (turned_terms (setting_of r) s t) _ y e in
-      let a = bind_ok (reduction_at (setting_of r) s t.coefficient t.step) _ z.0 z.1 in
-      let b = bind_ok (told_as refused (multiplied g a.0.factor t.before)) _ z.0 a.2 in
-      let c = bind_ok (told_as refused (multiplied g a.0.factor t.behind)) _ z.0 b.2 in
-      let d = bind_ok (told_as refused (raised_product t.step t.product)) _ z.0 c.2 in
-      let h = bind_ok (told_as refused (added g d.0 a.0.shift (b.0 ++ (t.product, a.0.rest) ∷ c.0))) _ z.0 d.2 in
-      record {
-        reduction = a.0;
-        reduction_is = a.1;
-        before = b.0;
-        before_is = told_ok refused (multiplied g a.0.factor t.before) b.0 b.1;
-        behind = c.0;
-        behind_is = told_ok refused (multiplied g a.0.factor t.behind) c.0 c.1;
-        product = d.0;
-        product_is = told_ok refused (raised_product t.step t.product) d.0 d.1;
-        terms = h.0;
-        terms_are = told_ok refused (added g d.0 a.0.shift (b.0 ++ (t.product, a.0.rest) ∷ c.0)) h.0 h.1;
-        made = ap (λ (w : Polynomial Symbol × List Term). record { factors = with_factor g w.0 x.factors; terms = w.1 }) (ok_same (a.0.factor, nonzero_terms h.0) z.0 h.2) ∙ ok_same (record { factors = with_factor g z.0.0 x.factors; terms = z.0.1 }) y z.2;
-      }
-
-  module _ (x : Prepared) (t : Turn) (y : Prepared) (holds : Holds x) (stands : x.terms ≡ t.before ++ (t.product, t.coefficient) ∷ t.behind) (next : next_step (setting_of r) s Free t.coefficient ≡ Some t.step) (k : TakenTurn x t y) where
+  module _ (x : Prepared) (t : Turn) (y : Prepared) (holds : Holds x) (stands : x.terms ≡ t.before ++ (t.product, t.coefficient) ∷ t.behind) (next : next_step (setting_of r) s Free t.coefficient ≡ Some t.step) (k : TakenTurn r s x t y) where
     -- the term of the turn
     abbrev here : Term
     here = (t.product, t.coefficient)
@@ -465,42 +466,12 @@ module _ (r : RankingValue) (s : State) (f : Polynomial Symbol) (equations : (j 
   pub turn_keeps : (x y : Prepared) (t : Turn) → Holds x → next_turn (setting_of r) s x.terms ≡ Some t → turn_answer (setting_of r) s x t ≡ Ok y → Holds y
   turn_keeps x y t holds e h =
       let found = turn_found r s [] x.terms t e in
-      turn_holds x t y holds found.0 found.1 (taken_turn x t y h)
+      turn_holds x t y holds found.0 found.1 (taken_turn r s x t y h)
 
   -- ---- all turns
   -- what holds where the turns end
-  abbrev IsOutcome : Course → Type 0
-  IsOutcome (finished x) = Holds x × IsReduced (setting_of r) s x
-  IsOutcome (stopped x stop) = Holds x
-  IsOutcome (passed x) = Holds x
-
-  pub turns_hold : (budget rounds : ℕ) (x : Prepared) (count : ℕ) → Holds x → IsOutcome (preparation_from (setting_of r) s budget rounds x count)
-  turns_hold budget zero x count holds = holds
-  turns_hold budget (suc rounds) x count holds = by_turn (next_turn (setting_of r) s x.terms) refl (λ y h. turns_hold budget rounds y (count + 1 + coefficient_terms y.terms) h)
-    where
-      by_budget : (b : Bool) (y : Prepared) → IsOutcome (preparation_from (setting_of r) s budget rounds y (count + 1 + coefficient_terms y.terms))
-          → IsOutcome (cond b (passed x) (preparation_from (setting_of r) s budget rounds y (count + 1 + coefficient_terms y.terms)))
-      by_budget true y h = holds
-      by_budget false y h = h
-
-      by_answer : (t : Turn) → next_turn (setting_of r) s x.terms ≡ Some t → (q : Result Prepared Stop) → turn_answer (setting_of r) s x t ≡ q
-          → ((y : Prepared) → Holds y → IsOutcome (preparation_from (setting_of r) s budget rounds y (count + 1 + coefficient_terms y.terms)))
-          → IsOutcome (elim q as (λ _. Course) [ Err stop ↦ stopped x stop | Ok y ↦ cond (nat_lt budget (count + 1 + coefficient_terms y.terms)) (passed x) (preparation_from (setting_of r) s budget rounds y (count + 1 + coefficient_terms y.terms)) ])
-      by_answer t n (Err stop) e more = holds
-      by_answer t n (Ok y) e more = by_budget (nat_lt budget (count + 1 + coefficient_terms y.terms)) y (more y (turn_keeps x y t holds n e))
-
-      by_turn : (o : Option Turn) → next_turn (setting_of r) s x.terms ≡ o
-          → ((y : Prepared) → Holds y → IsOutcome (preparation_from (setting_of r) s budget rounds y (count + 1 + coefficient_terms y.terms)))
-          → IsOutcome (elim o as (λ _. Course) [
-            | None ↦ finished x
-            | Some t ↦ elim (turn_answer (setting_of r) s x t) [ Err stop ↦ stopped x stop | Ok y ↦ cond (nat_lt budget (count + 1 + coefficient_terms y.terms)) (passed x) (preparation_from (setting_of r) s budget rounds y (count + 1 + coefficient_terms y.terms)) ]
-          ])
-      by_turn None e more = (holds, no_turn r s [] x.terms e)
-      by_turn (Some t) e more = by_answer t e (turn_answer (setting_of r) s x t) refl more
-
-  pub outcome : (budget : ℕ) → IsOutcome (preparation (setting_of r) s budget f)
-  unfolding preparation
-  outcome budget = turns_hold budget (suc budget) (unprepared f) 0 begun
+  pub outcome : (budget : ℕ) → HasCome Holds (setting_of r) s (preparation (setting_of r) s budget f)
+  outcome budget = walked Holds (setting_of r) s turn_keeps budget f begun
 
 -- the laws of preparation
 all_goods : (r : RankingValue) (ps : Polynomials) → AllOf (IsOver r) ps → AllOf (Goods r) ps
@@ -521,7 +492,7 @@ preparation_laws r s f over of_f =
       begins = (begun r s f equations good_f).partial;
       keeps = λ x y t over_x e h partial.
           (turn_keeps r s f equations good_f x y t (record { partial = partial; factors_good = all_goods r x.factors over_x.factors; coefficients_good = all_terms_good r x.terms over_x.coefficients }) e h).partial;
-      prepares = λ budget x e. let h = subst (IsOutcome r s f equations good_f) e (outcome r s f equations good_f budget) in record { partial = h.0.partial; reduced = h.1 };
-      stops = λ budget x stop e. (subst (IsOutcome r s f equations good_f) e (outcome r s f equations good_f budget)).partial;
-      passes = λ budget x e. (subst (IsOutcome r s f equations good_f) e (outcome r s f equations good_f budget)).partial;
+      prepares = λ budget x e. let h = subst (HasCome (Holds r s f equations good_f) (setting_of r) s) e (outcome r s f equations good_f budget) in record { partial = h.0.partial; reduced = no_turn r s [] x.terms h.1 };
+      stops = λ budget x stop e. (subst (HasCome (Holds r s f equations good_f) (setting_of r) s) e (outcome r s f equations good_f budget)).partial;
+      passes = λ budget x e. (subst (HasCome (Holds r s f equations good_f) (setting_of r) s) e (outcome r s f equations good_f budget)).partial;
     }

@@ -5,6 +5,7 @@ pub mod Preparation
 pub mod Turns
 pub mod Working
 pub mod Attempts
+pub mod AnswerOperators
 pub mod Progress
 pub mod Vanishing
 pub mod Laws

@@ -6,6 +6,7 @@ ghost use Rattle.dz_diff.specs.Operations.{setting_of};
 ghost use Rattle.dz_diff.specs.States.{StandsIn, state_in};
 ghost use Rattle.dz_step.specs.Attempts.{IsAttemptOf, ended};
 ghost use Rattle.dz_step.specs.FullRun.{full_run};
+ghost use Rattle.dz_step.specs.StepOperators.{AttemptDerivesAlong, DeriveAlong};
 ghost use Rattle.dz_step.specs.declared.Role.TheVariants.{Free};
 ghost use Rattle.dz_ask.specs.NormalForms.{IsNormalForm};
 
@@ -38,10 +39,17 @@ pub fn normal_form(
         (polynomial book.new x.remainder)) }
     ensures stopped { IfErr result (λ a. IsAttemptOf (full_run (setting_of book.old.ranking)
         (state_in book.old chain.now) Free budget (polynomial book.old f)) a.run a.stop) }
+    ensures derives { IfOk result (λ x.
+        DeriveAlong book.old.ranking.signature.independents x.run) }
+    ensures attempt { IfErr result (λ a.
+        AttemptDerivesAlong book.old.ranking.signature.independents a) }
     ensures kept { OnOk result (IsKept book.old book.new) }
     ensures added { IfOk result (λ x. IsAdded book.old book.new x.remainder) }
     ensures refused { OnErr result (book.new ≡ book.old) }
 {
+    // The facts of all books are known of this one: its polynomials are over the ranking.
+    book.opened();
+    let _ = book.ranking().signature();
     let (run, remainder) = reduce_fully(alloc, book, f, chain, Role::Free, budget)?;
     Ok(Normal { run, remainder })
 }

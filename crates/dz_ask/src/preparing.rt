@@ -14,6 +14,7 @@ ghost use Rattle.dz_step.specs.Divisors.{AreDivisors};
 ghost use Rattle.dz_step.specs.declared.Role.TheVariants.{Free};
 ghost use Rattle.dz_step.specs.declared.attempts.AttemptStop.TheVariants.{Memory};
 ghost use Rattle.dz_step.specs.declared.stepping.StepStop.TheVariants.{NotStep};
+ghost use Rattle.dz_ask.specs.AnswerOperators.{PreparationDerivesAlong, PrepareAttemptDerivesAlong};
 ghost use Rattle.dz_ask.specs.Attempts.{IsPreparationAnswer, IsPreparationAttempt, IsPreparationIn};
 ghost use Rattle.dz_ask.specs.Attempts.{IsStoppedIn, IsWithoutMemory, LiveTerms, LivesPreparation};
 ghost use Rattle.dz_ask.specs.Attempts.{power_in, prepared_in, term_in};
@@ -458,11 +459,16 @@ pub fn prepare(
     ensures partial { IfErr result (λ a. a.stop ≢ Memory
         → IsPartialPreparation (setting_of book.old.ranking) (state_in book.old chain.now)
         (polynomial book.old f) (prepared_in book.new a.partial)) }
+    ensures derives { IfOk result (λ p.
+        PreparationDerivesAlong book.old.ranking.signature.independents p) }
+    ensures attempt { IfErr result (λ a.
+        PrepareAttemptDerivesAlong book.old.ranking.signature.independents a) }
     ensures kept { IsKept book.old book.new }
     ensures restored { IfErr result (λ a. a.stop ≡ Memory → book.new ≡ book.old) }
 {
-    // The facts of all books are known of this one.
+    // The facts of all books are known of this one: its polynomials are over the ranking.
     book.opened();
+    let _ = book.ranking().signature();
     let mark = book.mark();
     match prepared(alloc, book, f, chain, budget) {
         Ok(answer) => answer,

@@ -6,6 +6,7 @@ ghost use Rattle.dz_diff.specs.Operations.{setting_of};
 ghost use Rattle.dz_diff.specs.States.{StandsIn, state_in};
 ghost use Rattle.dz_step.specs.Attempts.{IsAttemptOf};
 ghost use Rattle.dz_step.specs.FullRun.{full_run};
+ghost use Rattle.dz_step.specs.StepOperators.{AttemptDerivesAlong};
 ghost use Rattle.dz_step.specs.declared.Role.TheVariants.{Free};
 ghost use Rattle.dz_ask.specs.Vanishing.{IsVanishStop, IsVanishing, LeavesRemainder, RunsToZero};
 
@@ -38,6 +39,8 @@ fn runs_to_zero(
         (state_in book.old chain.now))) }
     ensures stopped { IfErr result (λ a. IsAttemptOf (full_run (setting_of book.old.ranking)
         (state_in book.old chain.now) Free budget (polynomial book.old f)) a.run a.stop) }
+    ensures attempt { IfErr result (λ a.
+        AttemptDerivesAlong book.old.ranking.signature.independents a) }
     ensures book { book.new ≡ book.old }
 {
     let mark = book.mark();
@@ -65,6 +68,8 @@ pub fn vanishes(
         (polynomial book.old f) (map (λ s. state_in book.old s) chains.now) b) }
     ensures stopped { IfErr result (λ stop. IsVanishStop (setting_of book.old.ranking) budget
         (polynomial book.old f) (map (λ s. state_in book.old s) chains.now) stop) }
+    ensures attempt { IfErr result (λ stop.
+        AttemptDerivesAlong book.old.ranking.signature.independents stop.attempt) }
     ensures book { book.new ≡ book.old }
 {
     for i in 0..chains.len() {

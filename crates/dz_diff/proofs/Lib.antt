@@ -19,3 +19,4 @@ pub mod LeaderBounds
 pub mod Separants
 pub mod ProperDerivatives
 pub mod MemberTests
+pub mod OverOperations

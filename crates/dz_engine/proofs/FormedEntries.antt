@@ -28,6 +28,7 @@ use Rattle.dz_step.specs.declared.Step.{Step}
 use Rattle.dz_step.specs.declared.Which.{Which}
 use Rattle.dz_step.specs.declared.Which.TheVariants.{Initial, Separant}
 use Rattle.dz_step.specs.Division.{is_divided, quotient_by}
+use Rattle.dz_step.specs.StepOperators.{course_steps}
 use Rattle.dz_step.specs.FullRun.{Course, finished, stopped, passed, admits, derivatives_of, full_run, or_else}
 use Rattle.dz_step.specs.Step.{multiplier_answer}
 use Rattle.dz_pair.specs.Pair.{critical_pairs, delta_answer}
@@ -49,7 +50,7 @@ use Rattle.dz_engine.specs.Resting.{EntryHolds}
 use Rattle.dz_engine.proofs.EasyRules.{IsRefusal, and_is, found, or_else_is}
 use Rattle.dz_engine.proofs.RunRules.{full_run_stopped}
 use Rattle.dz_tree.proofs.CriticalPairs.{NamesPair, critical_pairs_name}
-use Rattle.dz_engine.proofs.SpelledRuns.{IsNumbered, IsSpelled, steps_in, full_run_some, full_run_written, numbered_place, spelled_symbols}
+use Rattle.dz_engine.proofs.SpelledRuns.{IsNumbered, IsSpelled, full_run_some, full_run_written, numbered_place, spelled_symbols}
 use Rattle.dz_engine.proofs.OrderOfWork.{first_is, next_holds, steps_go, delta_fine}
 
 -- ---- entries that may stand in a tree
@@ -140,7 +141,7 @@ module _ (n : Signature) (g : Setting) (budget w : ℕ) (s : State) where
 
   -- an action by a full run with steps that can be spelled and belong
   course_formed : (action : List Step → Action) → ((steps : List Step) → list_all is_spelled_step steps ≡ true → AreStepsOf n steps → is_empty steps ≡ false → IsWritten n (action steps)) → ((steps : List Step) → is_add (action steps) ≡ false) → ((steps : List Step) → takes_out (action steps) ≡ false)
-      → (c : Course) → list_all is_spelled_step (steps_in c) ≡ true → AreStepsOf n (steps_in c) → is_empty (steps_in c) ≡ false → IsFormed n (by_course g budget w s action c)
+      → (c : Course) → list_all is_spelled_step (course_steps c) ≡ true → AreStepsOf n (course_steps c) → is_empty (course_steps c) ≡ false → IsFormed n (by_course g budget w s action c)
   course_formed action e no_add t (finished steps f count) a o b = plain_formed (action steps) (e steps a o b) (no_add steps)
   course_formed action e no_add t (stopped steps stop) a o b = open_formed (fault_of stop) (action steps) (e steps a o b) (no_add steps) (λ h. let z = t steps in absurd (no_two (takes_out (action steps)) h z))
     where
@@ -355,7 +356,7 @@ module _ (r : RankingValue) (few : r.signature.independents ≤ 4) (named : r.si
           let by = equation_place j n.second n.second_is in
           (and_is (is_place i) _ at.0 (and_is (is_place j) (list_all is_spelled_step steps) by.0 a), (at.1, by.1, o))
 
-      by_course' : (d : Polynomial Symbol) → delta_answer g n.first n.second ≡ Ok d → (x : ℕ) (limit : ℕ) (c : Course) → full_run g s Free limit d ≡ c → list_all is_spelled_step (steps_in c) ≡ true → AreStepsOf r.signature (steps_in c)
+      by_course' : (d : Polynomial Symbol) → delta_answer g n.first n.second ≡ Ok d → (x : ℕ) (limit : ℕ) (c : Course) → full_run g s Free limit d ≡ c → list_all is_spelled_step (course_steps c) ≡ true → AreStepsOf r.signature (course_steps c)
           → ((x : ℕ) (es' : List Evidence) → AreWrittenPairs es' → EntryHolds g budget w s (next x es') → IsFormed r.signature (next x es'))
           → EntryHolds g budget w s (after_course g budget s x es (i, j) c next) → IsFormed r.signature (after_course g budget s x es (i, j) c next)
       by_course' d e x limit (stopped steps stop) f a o ih k = by_stop (fault_of stop) (full_run_stopped g s Free limit _ _ (steps_go r few budget w s fine.stands fine.facts low Free) d steps stop (delta_fine r few budget w s fine.stands fine.facts low i j n.first n.second d n.first_is n.second_is e) f).1

@@ -40,7 +40,9 @@ use Rattle.dz_tree.specs.Standing.{IsStateOver, MayStand}
 use Rattle.dz_engine.specs.Resting.{EntryHolds}
 use Rattle.dz_engine.proofs.WorkedTrees.{Goes, worked_is_there}
 use Rattle.dz_engine.proofs.EasyRules.{SeparantsAreWide, closed_goes, divide_goes, factor_goes, split_goes}
-use Rattle.dz_tree.proofs.OverOperations.{step_over, next_fits, norm_over, delta_over}
+use Rattle.dz_diff.proofs.OverOperations.{norm_over}
+use Rattle.dz_step.proofs.OverSteps.{step_over, next_fits}
+use Rattle.dz_pair.proofs.OverDeltas.{delta_over}
 use Rattle.dz_tree.proofs.KeepableStates.{keepables_over}
 use Rattle.dz_tree.proofs.LowRuns.{coherent}
 use Rattle.dz_tree.proofs.TreeEntries.{evidence_grouped}
@@ -94,7 +96,7 @@ module _ (r : RankingValue) (few : r.signature.independents ≤ 4) (budget w : �
   steps_go role = record {
     keeps = λ f x st h e. step_over r few s role f x st over h e;
     next_is_step = λ f st h e. laws.next_is_step role f st h e;
-    fits = λ f st h e. next_fits r few s role f st over h e;
+    fits = λ f st h e. next_fits r few s role f st over h.belongs e;
   }
 
   -- runs never return

@@ -21,63 +21,20 @@ use Rattle.dz_diff.specs.Lists.{AllOf}
 use Rattle.dz_diff.specs.Operators.{divides, exponent_differences, quotient}
 use Rattle.dz_diff.specs.Operations.{Setting, setting_of}
 use Rattle.dz_diff.specs.State.{State, at_place}
-use Rattle.dz_diff.proofs.Places.{all-append}
 use Rattle.dz_step.specs.declared.Role.{Role}
 use Rattle.dz_step.specs.declared.Step.{Step}
 use Rattle.dz_step.specs.Step.{Stop, step_in}
 use Rattle.dz_step.specs.FullRun.{derivatives_of, next_step, admits, Course, finished, stopped, passed, full_run, full_run_from}
+use Rattle.dz_step.specs.StepOperators.{course_steps}
+use Rattle.dz_step.proofs.CourseSteps.{full_run_has}
 use Rattle.dz_step.proofs.NextSteps.{found_first, in_derivatives}
 use Rattle.dz_tree.specs.Belonging.{AreStepsOf, IsStepOf}
 use Rattle.dz_tree.specs.Forms.{is_place, is_spelled_operator, is_spelled_symbol, is_spelled_step}
 use Rattle.dz_tree.specs.Reasons.{is_empty}
-use Rattle.dz_tree.proofs.KeepableStates.{keepable_over, keepables_over, norm_keepable, step_keepable}
-use Rattle.dz_tree.proofs.OverOperations.{next_fits}
+use Rattle.dz_tree.proofs.KeepableStates.{keepables_over, norm_keepable, step_keepable}
+use Rattle.dz_step.proofs.OverSteps.{next_fits}
 use Rattle.dz_tree.proofs.RootStates.{or_none}
 use Rattle.dz_engine.proofs.EasyRules.{and_is}
-
--- ---- the steps of a full run
--- the steps that it takes, with the one that has no result or passes the budget
-abbrev pub steps_in : Course → List Step
-steps_in (finished steps f count) = steps
-steps_in (stopped steps stop) = steps
-steps_in (passed steps) = steps
-
--- what the next step of each polynomial on the way has, all steps have
-module _ (g : Setting) (s : State) (role : Role) (budget : ℕ) (Fine : Polynomial Symbol → Type 0) (Fits : Step → Type 0) (keeps : (f r : Polynomial Symbol) (st : Step) → Fine f → step_in g s role f st ≡ Ok r → Fine r)
-    (fits : (f : Polynomial Symbol) (st : Step) → Fine f → next_step g s role f ≡ Some st → Fits st) where
-  -- from a polynomial on, after some steps
-  fits_from : (rounds : ℕ) (done : List Step) (f : Polynomial Symbol) (count : ℕ) → Fine f → AllOf Fits done → AllOf Fits (steps_in (full_run_from g s role budget rounds done f count))
-  fits_from zero done f count fine h = h
-  fits_from (suc rounds) done f count fine h = by_step (next_step g s role f) refl (λ st r n fine' h'. fits_from rounds (done ++ st ∷ []) r n fine' h')
-    where
-      by_test : (b : Bool) (st : Step) (r : Polynomial Symbol) → Fine r → AllOf Fits (done ++ st ∷ []) → ((st : Step) (r : Polynomial Symbol) (n : ℕ) → Fine r → AllOf Fits (done ++ st ∷ []) → AllOf Fits (steps_in (full_run_from g s role budget rounds (done ++ st ∷ []) r n)))
-          → AllOf Fits (steps_in (cond b (passed (done ++ st ∷ [])) (full_run_from g s role budget rounds (done ++ st ∷ []) r (count + 1 + length r))))
-      by_test true st r fine' k ih = k
-      by_test false st r fine' k ih = ih st r (count + 1 + length r) fine' k
-
-      by_answer : (st : Step) (q : Result (Polynomial Symbol) Stop) → step_in g s role f st ≡ q → AllOf Fits (done ++ st ∷ []) → ((st : Step) (r : Polynomial Symbol) (n : ℕ) → Fine r → AllOf Fits (done ++ st ∷ []) → AllOf Fits (steps_in (full_run_from g s role budget rounds (done ++ st ∷ []) r n)))
-          → AllOf Fits (steps_in (elim q as (λ _. Course) [
-            | Err stop ↦ stopped (done ++ st ∷ []) stop
-            | Ok r ↦ cond (nat_lt budget (count + 1 + length r)) (passed (done ++ st ∷ [])) (full_run_from g s role budget rounds (done ++ st ∷ []) r (count + 1 + length r))
-          ]))
-      by_answer st (Err stop) e k ih = k
-      by_answer st (Ok r) e k ih = by_test (nat_lt budget (count + 1 + length r)) st r (keeps f r st fine e) k ih
-
-      by_step : (o : Option Step) → next_step g s role f ≡ o → ((st : Step) (r : Polynomial Symbol) (n : ℕ) → Fine r → AllOf Fits (done ++ st ∷ []) → AllOf Fits (steps_in (full_run_from g s role budget rounds (done ++ st ∷ []) r n)))
-          → AllOf Fits (steps_in (elim o as (λ _. Course) [
-            | None ↦ finished done f count
-            | Some st ↦ elim (step_in g s role f st) as (λ _. Course) [
-              | Err stop ↦ stopped (done ++ st ∷ []) stop
-              | Ok r ↦ cond (nat_lt budget (count + 1 + length r)) (passed (done ++ st ∷ [])) (full_run_from g s role budget rounds (done ++ st ∷ []) r (count + 1 + length r))
-            ]
-          ]))
-      by_step None m ih = h
-      by_step (Some st) m ih = by_answer st (step_in g s role f st) refl (all-append Fits done (st ∷ []) h (fits f st fine m, tt)) ih
-
-  -- from the norm of a polynomial on
-  pub full_run_has : (f : Polynomial Symbol) → Fine (norm f) → AllOf Fits (steps_in (full_run g s role budget f))
-  unfolding full_run
-  full_run_has f fine = fits_from (suc budget) [] (norm f) 0 fine tt
 
 -- a full run after some steps has some
 module _ (g : Setting) (s : State) (role : Role) (budget : ℕ) where
@@ -87,25 +44,25 @@ module _ (g : Setting) (s : State) (role : Role) (budget : ℕ) where
   one_more (x ∷ done) st = refl
 
   -- after the first
-  some_from : (rounds : ℕ) (done : List Step) (f : Polynomial Symbol) (count : ℕ) → is_empty done ≡ false → is_empty (steps_in (full_run_from g s role budget rounds done f count)) ≡ false
+  some_from : (rounds : ℕ) (done : List Step) (f : Polynomial Symbol) (count : ℕ) → is_empty done ≡ false → is_empty (course_steps (full_run_from g s role budget rounds done f count)) ≡ false
   some_from zero done f count h = h
   some_from (suc rounds) done f count h = by_step (next_step g s role f) (λ st r n. some_from rounds (done ++ st ∷ []) r n (one_more done st))
     where
-      by_test : (b : Bool) (st : Step) (r : Polynomial Symbol) → ((st : Step) (r : Polynomial Symbol) (n : ℕ) → is_empty (steps_in (full_run_from g s role budget rounds (done ++ st ∷ []) r n)) ≡ false)
-          → is_empty (steps_in (cond b (passed (done ++ st ∷ [])) (full_run_from g s role budget rounds (done ++ st ∷ []) r (count + 1 + length r)))) ≡ false
+      by_test : (b : Bool) (st : Step) (r : Polynomial Symbol) → ((st : Step) (r : Polynomial Symbol) (n : ℕ) → is_empty (course_steps (full_run_from g s role budget rounds (done ++ st ∷ []) r n)) ≡ false)
+          → is_empty (course_steps (cond b (passed (done ++ st ∷ [])) (full_run_from g s role budget rounds (done ++ st ∷ []) r (count + 1 + length r)))) ≡ false
       by_test true st r ih = one_more done st
       by_test false st r ih = ih st r (count + 1 + length r)
 
-      by_answer : (st : Step) (q : Result (Polynomial Symbol) Stop) → ((st : Step) (r : Polynomial Symbol) (n : ℕ) → is_empty (steps_in (full_run_from g s role budget rounds (done ++ st ∷ []) r n)) ≡ false)
-          → is_empty (steps_in (elim q as (λ _. Course) [
+      by_answer : (st : Step) (q : Result (Polynomial Symbol) Stop) → ((st : Step) (r : Polynomial Symbol) (n : ℕ) → is_empty (course_steps (full_run_from g s role budget rounds (done ++ st ∷ []) r n)) ≡ false)
+          → is_empty (course_steps (elim q as (λ _. Course) [
             | Err stop ↦ stopped (done ++ st ∷ []) stop
             | Ok r ↦ cond (nat_lt budget (count + 1 + length r)) (passed (done ++ st ∷ [])) (full_run_from g s role budget rounds (done ++ st ∷ []) r (count + 1 + length r))
           ])) ≡ false
       by_answer st (Err stop) ih = one_more done st
       by_answer st (Ok r) ih = by_test (nat_lt budget (count + 1 + length r)) st r ih
 
-      by_step : (o : Option Step) → ((st : Step) (r : Polynomial Symbol) (n : ℕ) → is_empty (steps_in (full_run_from g s role budget rounds (done ++ st ∷ []) r n)) ≡ false)
-          → is_empty (steps_in (elim o as (λ _. Course) [
+      by_step : (o : Option Step) → ((st : Step) (r : Polynomial Symbol) (n : ℕ) → is_empty (course_steps (full_run_from g s role budget rounds (done ++ st ∷ []) r n)) ≡ false)
+          → is_empty (course_steps (elim o as (λ _. Course) [
             | None ↦ finished done f count
             | Some st ↦ elim (step_in g s role f st) as (λ _. Course) [
               | Err stop ↦ stopped (done ++ st ∷ []) stop
@@ -116,22 +73,22 @@ module _ (g : Setting) (s : State) (role : Role) (budget : ℕ) where
       by_step (Some st) ih = by_answer st (step_in g s role f st) ih
 
   -- on a norm that admits a step
-  pub full_run_some : (f : Polynomial Symbol) → norm f ≡ f → admits g s role f ≡ true → is_empty (steps_in (full_run g s role budget f)) ≡ false
+  pub full_run_some : (f : Polynomial Symbol) → norm f ≡ f → admits g s role f ≡ true → is_empty (course_steps (full_run g s role budget f)) ≡ false
   unfolding full_run
   full_run_some f normal h = by_step (next_step g s role (norm f)) (ap (λ x. is_some (next_step g s role x)) normal ∙ h)
     where
-      by_test : (b : Bool) (st : Step) (r : Polynomial Symbol) → is_empty (steps_in (cond b (passed (st ∷ [])) (full_run_from g s role budget budget (st ∷ []) r (0 + 1 + length r)))) ≡ false
+      by_test : (b : Bool) (st : Step) (r : Polynomial Symbol) → is_empty (course_steps (cond b (passed (st ∷ [])) (full_run_from g s role budget budget (st ∷ []) r (0 + 1 + length r)))) ≡ false
       by_test true st r = refl
       by_test false st r = some_from budget (st ∷ []) r (0 + 1 + length r) refl
 
-      by_answer : (st : Step) (q : Result (Polynomial Symbol) Stop) → is_empty (steps_in (elim q as (λ _. Course) [
+      by_answer : (st : Step) (q : Result (Polynomial Symbol) Stop) → is_empty (course_steps (elim q as (λ _. Course) [
         | Err stop ↦ stopped (st ∷ []) stop
         | Ok r ↦ cond (nat_lt budget (0 + 1 + length r)) (passed (st ∷ [])) (full_run_from g s role budget budget (st ∷ []) r (0 + 1 + length r))
       ])) ≡ false
       by_answer st (Err stop) = refl
       by_answer st (Ok r) = by_test (nat_lt budget (0 + 1 + length r)) st r
 
-      by_step : (o : Option Step) → is_some o ≡ true → is_empty (steps_in (elim o as (λ _. Course) [
+      by_step : (o : Option Step) → is_some o ≡ true → is_empty (course_steps (elim o as (λ _. Course) [
         | None ↦ finished [] (norm f) 0
         | Some st ↦ elim (step_in g s role (norm f) st) as (λ _. Course) [
           | Err stop ↦ stopped (st ∷ []) stop
@@ -229,13 +186,13 @@ module _ (r : RankingValue) (few : r.signature.independents ≤ 4) (named : r.si
       let low = quotient_low k.0 q.top st.operator q.quotient_is in
       let place = subst IsNumbered (sym (q.place_is ∙ omega arith)) (numbered_place q.index q.equation s.equations most q.is_there) in (
         and_is (is_place st.place) (is_spelled_operator st.operator) place.0 (le-leb (sum (st.operator).counts) 60 (omega (arith, low, k.1.1))),
-        record { place = place.1; operator = next_fits r few s role f st (keepables_over r few s.equations all) (keepable_over r few f h) e },
+        record { place = place.1; operator = next_fits r few s role f st (keepables_over r few s.equations all) h.belongs e },
       )
 
   -- ---- full runs
   -- all steps of a full run from a polynomial that may stand in a book, by equations that may
-  pub full_run_written : (s : State) (role : Role) (budget : ℕ) (f : Polynomial Symbol) → length s.equations ≤ 256 → AllOf (IsKeepable r) s.equations → IsKeepable r f → AreWrittenSteps (steps_in (full_run (setting_of r) s role budget f))
-  full_run_written s role budget f most all h = all_written _ (full_run_has (setting_of r) s role budget (IsKeepable r) IsWrittenStep (λ f x st k e. step_keepable r few s role f x st all k e) (λ f st k e. next_written s role f st most all k e) f (norm_keepable r few f h))
+  pub full_run_written : (s : State) (role : Role) (budget : ℕ) (f : Polynomial Symbol) → length s.equations ≤ 256 → AllOf (IsKeepable r) s.equations → IsKeepable r f → AreWrittenSteps (course_steps (full_run (setting_of r) s role budget f))
+  full_run_written s role budget f most all h = all_written _ (full_run_has (setting_of r) s role budget (IsKeepable r) IsWrittenStep (λ f x st k fit e. step_keepable r few s role f x st all k e) (λ f st k e. next_written s role f st most all k e) f (norm_keepable r few f h))
     where
       all_written : (steps : List Step) → AllOf IsWrittenStep steps → AreWrittenSteps steps
       all_written [] k = (refl, tt)

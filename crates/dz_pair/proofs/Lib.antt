@@ -1,3 +1,4 @@
 pub mod DeltaParts
 pub mod LeaderOperators
 pub mod PairLists
+pub mod OverDeltas

@@ -6,6 +6,8 @@ pub mod Falls
 pub mod NextSteps
 pub mod NoSteps
 pub mod Courses
+pub mod OverSteps
+pub mod CourseSteps
 pub mod StepParts
 pub mod StepAnswers
 pub mod FullCourses

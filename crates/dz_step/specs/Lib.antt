@@ -6,6 +6,7 @@ pub mod FullRun
 pub mod Laws
 pub mod StepStops
 pub mod Attempts
+pub mod StepOperators
 pub mod Replays
 pub mod Turns
 pub mod Divisors

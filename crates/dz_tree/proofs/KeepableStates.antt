@@ -47,7 +47,9 @@ use Rattle.dz_pair.proofs.DeltaParts.{delta_parts}
 use Rattle.dz_tree.specs.Moves.{Action, Done, perform}
 use Rattle.dz_tree.specs.Standing.{MayStand}
 use Rattle.dz_tree.proofs.KeptMembers.{AreKept, HaveAll, all_give, perform_kept, root_kept}
-use Rattle.dz_tree.proofs.OverOperations.{delta_products, rate_by_in, step_products}
+use Rattle.dz_diff.proofs.OverOperations.{rate_by_in}
+use Rattle.dz_step.proofs.OverSteps.{step_products}
+use Rattle.dz_pair.proofs.OverDeltas.{delta_products}
 use Rattle.dz_tree.proofs.OverStates.{divisor_belongs, divisor_occurs}
 
 module _ (r : RankingValue) (few : r.signature.independents ≤ 4) where

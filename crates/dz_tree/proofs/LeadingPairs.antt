@@ -6,7 +6,8 @@ use Rattle.dz_diff.specs.Lists.{AllOf}
 use Rattle.dz_tree.specs.declared.lines.Line.{Line as ProgramLine}
 use Rattle.dz_tree.specs.Chain.{Evidence}
 use Rattle.dz_tree.specs.EvidenceLines.{evidence_of, is_pair_line}
-use Rattle.dz_tree.specs.LineOperators.{DeriveAlong, HaveOperatorsOf, steps_in}
+use Rattle.dz_step.specs.StepOperators.{DeriveAlong}
+use Rattle.dz_tree.specs.LineOperators.{HaveOperatorsOf, steps_in}
 use Rattle.dz_tree.specs.Lines.{Line, act, closed, chain, pair, spent, spent_pairs, open_wide, open_separant, open_large, grouped}
 use Rattle.dz_tree.specs.TreeLines.{line_of}
 

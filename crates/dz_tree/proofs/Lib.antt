@@ -7,7 +7,6 @@ pub mod KeptNorms
 pub mod RootStates
 pub mod RootLists
 pub mod RootFacts
-pub mod OverOperations
 pub mod KeptMembers
 pub mod OverStates
 pub mod KeepableStates

@@ -1,5 +1,5 @@
--- The steps of a run from a Delta-polynomial are below the least common derivative: its symbols are, and no step brings in a
--- symbol above the one at which it is taken.
+-- The steps of runs from a Delta-polynomial are below the least common derivative: its symbols are, and no step brings
+-- in a symbol above the one at which it is taken.
 use Rattle.std.specs.List.{list_all}
 use Rattle.std.proofs.Common.{◌≡◌, ◌⊎◌, inl, inr, ℕ, suc, ◌+◌, ◌≤◌, ◌==◌, Bool, true, false, not, ◌&&◌, cond, List, [], ◌∷◌, length, refl, sym, ap, ap₂, ◌∙◌, subst, Ok, Option, Some, None, arith}
 use Rattle.std.proofs.lemmas.Bool.{leb-true}
@@ -16,7 +16,7 @@ use Rattle.dz_algebra.specs.Symbols.{Symbols}
 use Rattle.dz_algebra.proofs.Canonical.{are_monomials}
 use Rattle.dz_algebra.proofs.Inside.{in_norm}
 use Rattle.dz_rank.specs.Rankings.{RankingValue}
-use Rattle.dz_rank.specs.Symbols.{IsOperatorOf, derivative_by, is_derivative, least_common_derivative}
+use Rattle.dz_rank.specs.Symbols.{BelongsTo, IsOperatorOf, derivative_by, is_derivative, least_common_derivative}
 use Rattle.dz_rank.specs.declared.symbols.Operator.{Operator}
 use Rattle.dz_rank.specs.declared.symbols.Symbol.{Symbol}
 use Rattle.dz_rank.specs.declared.symbols.Symbol.TheVariants.{Independent, Derivative}
@@ -28,7 +28,7 @@ use Rattle.dz_diff.specs.Operators.{divides, is_proper, quotient}
 use Rattle.dz_diff.specs.Operations.{operator_answer, setting_of}
 use Rattle.dz_diff.specs.Outcome.{numbered}
 use Rattle.dz_diff.specs.Over.{IsOver}
-use Rattle.dz_diff.specs.State.{State}
+use Rattle.dz_diff.specs.State.{State, at_place}
 use Rattle.dz_diff.proofs.Answers.{bind_ok, both, is_false, told_ok}
 use Rattle.dz_diff.proofs.Degrees.{AtMost, IsWithout}
 use Rattle.dz_diff.proofs.Goodness.{good_separant}
@@ -42,18 +42,23 @@ use Rattle.dz_diff.proofs.Separants.{IsNotAbove}
 use Rattle.dz_step.specs.declared.Role.{Role}
 use Rattle.dz_step.specs.declared.Role.TheVariants.{Free}
 use Rattle.dz_step.specs.declared.Step.{Step}
+use Rattle.dz_step.specs.FullRun.{derivatives_of, full_run, next_step}
+use Rattle.dz_step.specs.StepOperators.{course_steps}
+use Rattle.dz_step.proofs.CourseSteps.{full_run_has}
 use Rattle.dz_step.specs.Run.{Ran, run, run_from}
 use Rattle.dz_step.specs.Step.{multiplier_of, step_degree, step_in}
 use Rattle.dz_step.proofs.Falls.{derivative_nothing, operator_nothing}
 use Rattle.dz_step.proofs.Lowering.{cross_lowered}
-use Rattle.dz_step.proofs.NextSteps.{derivative_quotient}
+use Rattle.dz_step.proofs.NextSteps.{derivative_quotient, found_first, in_derivatives}
 use Rattle.dz_step.proofs.StepsLower.{separant_under, without_above}
 use Rattle.dz_step.proofs.TakenSteps.{taken_step}
 use Rattle.dz_pair.specs.Pair.{are_crossing, common, common_of_leaders, delta_answer, is_pair, leaders_cross}
 use Rattle.dz_pair.proofs.DeltaParts.{DeltaParts, delta_parts, good_rest}
 use Rattle.dz_tree.specs.Chain.{is_below, is_less, passes}
 use Rattle.dz_step.proofs.NoSteps.{and_is}
-use Rattle.dz_tree.proofs.OverOperations.{degree_in, degree_one, delta_over, difference_in, leader_belongs, multiplier_in, norm_over, parts_in, product_in, quotient_fits, regular_of, step_over}
+use Rattle.dz_diff.proofs.OverOperations.{degree_in, difference_in, leader_belongs, norm_over, product_in}
+use Rattle.dz_step.proofs.OverSteps.{degree_one, multiplier_in, parts_in, quotient_fits, regular_of, step_over, next_fits}
+use Rattle.dz_pair.proofs.OverDeltas.{delta_over}
 
 module _ (r : RankingValue) (few : r.signature.independents ≤ 4) where
   abbrev g : Symbols Symbol
@@ -271,3 +276,52 @@ module _ (r : RankingValue) (few : r.signature.independents ≤ 4) where
       by_leaders None m i j c = cc
       by_leaders (Some l) None i j c = cc
       by_leaders (Some l) (Some m) i j c = run_low s Free (least_common_derivative l m) over d steps x (delta_over r few p q d h of_p of_q) (delta_low p q d l m of_p of_q i j c h) fits e
+
+  -- ---- and each step of a full run from it
+  -- what all symbols have, and what else they have
+  both_in : (P Q : Symbol → Type 0) (p : Polynomial Symbol) → PolynomialIn P p → PolynomialIn Q p → PolynomialIn (λ s. P s × Q s) p
+  both_in P Q [] h k = tt
+  both_in P Q (t ∷ p) h k = (in_monomial t.0 h.0 k.0, both_in P Q p h.1 k.1)
+    where
+      in_monomial : (m : Monomial Symbol) → MonomialIn P m → MonomialIn Q m → MonomialIn (λ s. P s × Q s) m
+      in_monomial [] h k = tt
+      in_monomial (s ∷ m) h k = ((h.0, k.0), in_monomial m h.1 k.1)
+
+  module _ (s : State) (role : Role) (w : Symbol) (over : AllOf (IsOver r) s.equations) where
+    -- over the ranking, and below w
+    abbrev IsLowOver : Polynomial Symbol → Type 0
+    IsLowOver f = IsOver r f × PolynomialIn (IsLow w) f
+
+    -- a step below w, with an operator of the signature
+    abbrev IsLowStep : Step → Type 0
+    IsLowStep st = (is_below g s w st ≡ true) × IsOperatorOf r.signature.independents st.operator
+
+    next_low : (f : Polynomial Symbol) (st : Step) → IsLowOver f → next_step (setting_of r) s role f ≡ Some st → IsLowStep st
+    next_low f st fine e =
+        let both = both_in (BelongsTo r.signature) (IsLow w) f fine.0.belongs fine.1 in
+        let k = found_first r s role f (λ v. BelongsTo r.signature v × IsLow w v) st (derivatives_of g f) e (in_derivatives g (λ v. BelongsTo r.signature v × IsLow w v) (λ v. BelongsTo r.signature v × IsLow w v) (λ v h _. h) f both) in
+        let q = k.2 in
+        let there : at_place st.place s.equations ≡ Some q.equation = ap (λ i. at_place i s.equations) (q.place_is ∙ omega arith) ∙ q.is_there in
+        let of_q = (taken (IsOver r) st.place q.equation s.equations there over).0 in
+        let raised = derivative_quotient 4 k.0 q.top st.operator q.quotient_is (regular_of r few k.0 k.1.0) (regular_of r few q.top (leader_belongs r few q.equation q.top q.leader_is of_q.belongs)) in (
+          ap (passes (λ q. passes (λ l. is_less (g.cmp (derivative_by st.operator l) w)) (leader g q))) there ∙ ap (passes (λ l. is_less (g.cmp (derivative_by st.operator l) w))) q.leader_is ∙ ap (λ v. is_less (g.cmp v w)) raised
+              ∙ ap is_less k.1.1,
+          next_fits r few s role f st over fine.0.belongs e,
+        )
+
+    full_run_low : (budget : ℕ) (f : Polynomial Symbol) → IsLowOver f → list_all (is_below g s w) (course_steps (full_run (setting_of r) s role budget f)) ≡ true
+    full_run_low budget f fine = all_below _
+        (full_run_has (setting_of r) s role budget IsLowOver IsLowStep (λ f x st h fit e. (step_over r few s role f x st over h.0 e, (step_low s role w over f x st h.0 h.1 fit.1 e).1)) next_low f (norm_over r few f fine.0, in_norm g.cmp (IsLow w) f fine.1))
+      where
+        all_below : (steps : List Step) → AllOf IsLowStep steps → list_all (is_below g s w) steps ≡ true
+        all_below [] h = refl
+        all_below (st ∷ steps) h = and_is _ _ h.0.0 (all_below steps h.1)
+
+  pub full_run_coherent : (s : State) (p q d : Polynomial Symbol) (budget : ℕ) → AllOf (IsOver r) s.equations → IsOver r p → IsOver r q → is_pair g p q ≡ true → delta_answer (setting_of r) p q ≡ Ok d
+      → passes (λ w. list_all (is_below g s w) (course_steps (full_run (setting_of r) s Free budget d))) (common g p q) ≡ true
+  full_run_coherent s p q d budget over of_p of_q pair h = by_leaders (leader g p) (leader g q) refl refl pair
+    where
+      by_leaders : (l m : Option Symbol) → leader g p ≡ l → leader g q ≡ m → leaders_cross l m ≡ true → passes (λ w. list_all (is_below g s w) (course_steps (full_run (setting_of r) s Free budget d))) (common_of_leaders l m) ≡ true
+      by_leaders None m i j c = cc
+      by_leaders (Some l) None i j c = cc
+      by_leaders (Some l) (Some m) i j c = full_run_low s Free (least_common_derivative l m) over budget d (delta_over r few p q d h of_p of_q, delta_low p q d l m of_p of_q i j c h)

@@ -5,7 +5,7 @@ use Rattle.std.proofs.Math.Seq.{drop-cons}
 use Rattle.std.proofs.lemmas.List.Elements.{All-cons, All-tail}
 use Rattle.dz_rank.specs.Symbols.{IsOperatorOf}
 use Rattle.dz_step.specs.declared.Step.{Step}
-use Rattle.dz_tree.specs.LineOperators.{DeriveAlong}
+use Rattle.dz_step.specs.StepOperators.{DeriveAlong}
 use Rattle.dz_tree.proofs.StepLists.{at_step}
 
 -- a direction without a derivation

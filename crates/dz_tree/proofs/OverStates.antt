@@ -23,7 +23,9 @@ use Rattle.dz_step.specs.Division.{divided_by, divisor_power, is_divided, least_
 use Rattle.dz_tree.specs.Moves.{Action, Done, perform}
 use Rattle.dz_tree.proofs.Quotients.{good_quotient}
 use Rattle.dz_tree.proofs.KeptMembers.{AreKept, HaveAll, all_give, perform_kept, root_kept}
-use Rattle.dz_tree.proofs.OverOperations.{delta_over, multiplier_in, norm_over, step_over}
+use Rattle.dz_diff.proofs.OverOperations.{norm_over}
+use Rattle.dz_step.proofs.OverSteps.{multiplier_in, step_over}
+use Rattle.dz_pair.proofs.OverDeltas.{delta_over}
 
 module _ (r : RankingValue) (few : r.signature.independents ≤ 4) where
   -- all polynomials of a state are over the ranking

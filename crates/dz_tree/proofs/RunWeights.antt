@@ -28,7 +28,7 @@ use Rattle.dz_tree.specs.Chain.{Evidence, evidence_weight, is_below, passes}
 use Rattle.dz_tree.specs.ChainParts.{IsForPair}
 use Rattle.dz_tree.specs.Entering.{IsEntryFault, entry_fault, rule_in}
 use Rattle.dz_tree.specs.Fault.{Fault, refusal, rule, rule_of, rule_of_refusal, run_fault}
-use Rattle.dz_tree.specs.LineOperators.{DeriveAlong}
+use Rattle.dz_step.specs.StepOperators.{DeriveAlong}
 use Rattle.dz_tree.specs.Parts.{DeltaRun, delta_run}
 use Rattle.dz_tree.proofs.LowRuns.{coherent}
 use Rattle.dz_tree.proofs.RootFacts.{all_over}

@@ -43,7 +43,9 @@ use Rattle.dz_tree.specs.Laws.{StateLaws}
 use Rattle.dz_tree.specs.Standing.{IsStateOver, MayStand}
 use Rattle.dz_tree.proofs.KeepableStates.{keepables_over, perform_stands, root_stands}
 use Rattle.dz_tree.proofs.KeptMembers.{all_give}
-use Rattle.dz_tree.proofs.OverOperations.{delta_over, norm_over, step_over}
+use Rattle.dz_diff.proofs.OverOperations.{norm_over}
+use Rattle.dz_step.proofs.OverSteps.{step_over}
+use Rattle.dz_pair.proofs.OverDeltas.{delta_over}
 use Rattle.dz_tree.proofs.OverStates.{StateOver}
 
 -- ---- lists without repeats, at their places

@@ -22,7 +22,8 @@ use Rattle.dz_tree.specs.Chain.{Evidence}
 use Rattle.dz_tree.specs.Counting.{form_trees, lets_line, may_stand}
 use Rattle.dz_tree.specs.EvidenceLines.{is_pair_line}
 use Rattle.dz_tree.specs.Forms.{FormTree, is_spelled}
-use Rattle.dz_tree.specs.LineOperators.{DeriveAlong, HaveOperatorsOf, steps_in}
+use Rattle.dz_step.specs.StepOperators.{DeriveAlong}
+use Rattle.dz_tree.specs.LineOperators.{HaveOperatorsOf, steps_in}
 use Rattle.dz_tree.specs.Lines.{Line, act, closed, chain, pair, spent, spent_pairs, open_wide, open_separant, open_large, entries_of, grouped}
 use Rattle.dz_tree.specs.Pending.{PendingValue, pending_states}
 use Rattle.dz_tree.specs.TreeLines.{line_of}

@@ -1,8 +1,8 @@
 -- The operators in lines, and the signature to which they belong.
 use Rattle.std.specs.Prelude.{ℕ, List, []}
-use Rattle.dz_rank.specs.Symbols.{IsOperatorOf}
 use Rattle.dz_step.specs.declared.Step.{Step}
 use Rattle.dz_diff.specs.Lists.{AllOf}
+use Rattle.dz_step.specs.StepOperators.{DeriveAlong}
 use Rattle.dz_tree.specs.Moves.{steps_of}
 use Rattle.dz_tree.specs.Lines.{Line, act, pair, spent, open_wide, open_large}
 
@@ -15,10 +15,6 @@ steps_in (open_wide action) = steps_of action
 steps_in (open_large limit action) = steps_of action
 steps_in line = []
 
--- the steps derive in the directions of n independents alone
-abbrev pub DeriveAlong : ℕ → List Step → Type 0
-DeriveAlong n steps = AllOf (λ (st : Step). IsOperatorOf n st.operator) steps
-
--- and so do the steps of all lines
+-- the steps of all lines derive in the directions of n independents alone
 abbrev pub HaveOperatorsOf : ℕ → List Line → Type 0
 HaveOperatorsOf n lines = AllOf (λ line. DeriveAlong n (steps_in line)) lines

@@ -11,7 +11,8 @@ ghost use Rattle.dz_tree.specs.Chain.{Evidence, chain_weight, evidence_from, evi
 ghost use Rattle.dz_tree.specs.ChainParts.{IsForPair, IsRunWeight, is_within};
 ghost use Rattle.dz_tree.specs.Entering.{IsEntryFault, entry_fault};
 ghost use Rattle.dz_tree.specs.EvidenceLines.{evidence_of, is_pair_line};
-ghost use Rattle.dz_tree.specs.LineOperators.{DeriveAlong, HaveOperatorsOf, steps_in};
+ghost use Rattle.dz_step.specs.StepOperators.{DeriveAlong};
+ghost use Rattle.dz_tree.specs.LineOperators.{HaveOperatorsOf, steps_in};
 ghost use Rattle.dz_tree.specs.Lines.{pair};
 ghost use Rattle.dz_tree.specs.TreeLines.{line_of};
 

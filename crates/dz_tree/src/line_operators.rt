@@ -2,7 +2,8 @@
 
 ghost use Rattle.std.specs.Prelude.{◌↔◌, IsTrue, map};
 ghost use Rattle.dz_rank.specs.Symbols.{IsOperatorOf};
-ghost use Rattle.dz_tree.specs.LineOperators.{DeriveAlong, HaveOperatorsOf, steps_in};
+ghost use Rattle.dz_step.specs.StepOperators.{DeriveAlong};
+ghost use Rattle.dz_tree.specs.LineOperators.{HaveOperatorsOf, steps_in};
 ghost use Rattle.dz_tree.specs.Moves.{steps_of};
 ghost use Rattle.dz_tree.specs.TreeLines.{action_of, line_of};
 

@@ -4,7 +4,8 @@ use Rattle.dz_terms.specs.Ranked.{symbols_under}
 use Rattle.dz_diff.specs.Operations.{setting_of}
 use Rattle.dz_diff.specs.States.{state_in}
 use Rattle.dz_tree.specs.ChainParts.{IsForPair, is_within}
-use Rattle.dz_tree.specs.LineOperators.{DeriveAlong, steps_in}
+use Rattle.dz_step.specs.StepOperators.{DeriveAlong}
+use Rattle.dz_tree.specs.LineOperators.{steps_in}
 use Rattle.dz_tree.proofs.ChainRules.{evidence_here, line_is_pair}
 use Rattle.dz_tree.proofs.ChainWeights.{evidence_has, line_has, past_left, run_costs, run_counts, run_fails, within_left}
 use Rattle.dz_tree.proofs.evidence.runs_weight.Goals as goal

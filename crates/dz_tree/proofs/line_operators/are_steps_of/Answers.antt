@@ -1,5 +1,5 @@
 use Rattle.std.proofs.Common.{◌<◌, length, subst}
-use Rattle.dz_tree.specs.LineOperators.{DeriveAlong}
+use Rattle.dz_step.specs.StepOperators.{DeriveAlong}
 use Rattle.dz_tree.proofs.OperatorLists.{step_passed}
 use Rattle.dz_tree.proofs.line_operators.are_steps_of.Goals as goal
 
