@@ -5,9 +5,11 @@ use Rattle.std.proofs.Common.{◌≡◌, ℕ, zero, suc, ◌+◌, ◌*◌, ◌�
 use Rattle.dz_rank.specs.Rankings.{RankingValue}
 use Rattle.dz_diff.specs.Outcome.{◌>>=◌, needs, numbered}
 use Rattle.dz_diff.specs.Operations.{Setting, setting_of}
-use Rattle.dz_diff.specs.Over.{AreOver}
+use Rattle.dz_diff.specs.Over.{AreOver, IsOver}
 use Rattle.dz_diff.specs.State.{State}
+use Rattle.dz_diff.proofs.Places.{taken}
 use Rattle.dz_tree.specs.Root.{System, is_closed, root_of}
+use Rattle.dz_terms.specs.Entries.{IsKeepable}
 use Rattle.dz_terms.specs.Ranked.{symbols_under}
 use Rattle.dz_tree.specs.Systems.{system_limit}
 use Rattle.dz_pair.specs.Pair.{critical_pairs}
@@ -25,6 +27,8 @@ use Rattle.dz_tree.proofs.KeepableStates.{keepables_over}
 use Rattle.dz_tree.proofs.StateFacts.{state_laws}
 use Rattle.dz_tree.proofs.TreeEntries.{lines_of_entries}
 use Rattle.dz_engine.proofs.RestingLines.{chain_line}
+use Rattle.dz_tree.proofs.LowRuns.{full_run_coherent}
+use Rattle.dz_engine.proofs.SmallSeparants.{separant_is_wide}
 use Rattle.dz_engine.proofs.OrderOfWork.{entries_there, next_holds, worked_grouped}
 use Rattle.dz_engine.proofs.WorkedForms.{worked_belong, worked_forms}
 
@@ -84,6 +88,10 @@ pub order_laws : (r : RankingValue) → r.signature.independents ≤ 4 → r.sig
 order_laws r few named budget most = record {
   holds = λ w s low h. next_holds r few budget w s h.stands h.facts low;
   is_there = tree_there r few named budget most;
+  separants = λ s i p l refusal h a leads e. separant_is_wide r l p refusal (taken (IsKeepable r) i p s.equations a (h.stands).equations_keepable).0 e;
+  coherent = λ s i j p q d left h a b pair e.
+      let all = (over s h).equations_over in
+      full_run_coherent r few s p q d left all (taken (IsOver r) i p s.equations a all).0 (taken (IsOver r) j q s.equations b all).0 pair e;
   belong = tree_belongs r few named budget;
   closed_line = λ w s e. closed_line (setting_of r) budget w s e;
   chain_line = λ w s h rest. chain_line r few budget w s (over s h) h.facts rest;

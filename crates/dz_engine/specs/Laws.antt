@@ -1,11 +1,20 @@
 -- The laws of worked trees; the crate's law functions ask for their proofs.
-use Rattle.std.specs.Prelude.{◌≡◌, ◌≤◌, ◌+◌, ◌*◌, ℕ, true, List, [], ◌∷◌, None}
-use Rattle.std.specs.List.{AllByRecursion}
+use Rattle.std.specs.Prelude.{◌≡◌, ◌≤◌, ◌+◌, ◌*◌, ℕ, true, List, [], ◌∷◌, Ok, Err, Some, None}
+use Rattle.std.specs.List.{AllByRecursion, list_all}
+use Rattle.dz_algebra.specs.Parts.{leader}
+use Rattle.dz_algebra.specs.Polynomial.{Polynomial}
+use Rattle.dz_algebra.specs.Size.{Refusal, wide, separant_answer}
+use Rattle.dz_rank.specs.declared.symbols.Symbol.{Symbol}
 use Rattle.dz_rank.specs.Rankings.{RankingValue}
 use Rattle.dz_diff.specs.Operations.{Setting, setting_of}
 use Rattle.dz_terms.specs.Ranked.{symbols_under}
+use Rattle.dz_step.specs.FullRun.{full_run}
+use Rattle.dz_step.specs.StepOperators.{course_steps}
+use Rattle.dz_step.specs.declared.Role.TheVariants.{Free}
+use Rattle.dz_pair.specs.Pair.{common, delta_answer, is_pair}
+use Rattle.dz_tree.specs.Chain.{is_below, passes}
 use Rattle.dz_tree.specs.Root.{System, is_closed, root_of}
-use Rattle.dz_diff.specs.State.{State}
+use Rattle.dz_diff.specs.State.{State, at_place}
 use Rattle.dz_tree.specs.Systems.{system_limit}
 use Rattle.dz_tree.specs.Standing.{IsStateOver, MayStand}
 use Rattle.dz_tree.specs.Belonging.{IsLineOf}
@@ -29,6 +38,11 @@ pub record OrderLaws (r : RankingValue) (budget : ℕ) : Type 0 where
   -- for a system whose polynomials may stand in a book, within its limits, there is a worked tree, found in so many rounds
   pub is_there : (system : System) → MayStand r system.equations system.inequations → system_limit system ≡ None
       → IsWorked (setting_of r) system (record { budget = budget; lines = worked_lines (setting_of r) budget (2 * budget + 1) system })
+  -- at such a state the separant of an equation is refused only where it is too wide
+  pub separants : (s : State) (i : ℕ) (p : Polynomial Symbol) (l : Symbol) (refusal : Refusal) → IsStateOver r s → at_place i s.equations ≡ Some p → leader (symbols_under r) p ≡ Some l → separant_answer (symbols_under r) l p ≡ Err refusal → refusal ≡ wide
+  -- each step of a full run from the Delta-polynomial of a critical pair is below the least common derivative
+  pub coherent : (s : State) (i j : ℕ) (p q d : Polynomial Symbol) (left : ℕ) → IsStateOver r s → at_place i s.equations ≡ Some p → at_place j s.equations ≡ Some q → is_pair (symbols_under r) p q ≡ true → delta_answer (setting_of r) p q ≡ Ok d
+      → passes (λ w. list_all (is_below (symbols_under r) s w) (course_steps (full_run (setting_of r) s Free left d))) (common (symbols_under r) p q) ≡ true
   -- each line of a worked tree belongs to the signature
   pub belong : (system : System) (lines : List Line) → MayStand r system.equations system.inequations → system_limit system ≡ None → IsWorked (setting_of r) system (record { budget = budget; lines = lines })
       → AllByRecursion (λ line. IsLineOf r.signature line) lines
