@@ -1,11 +1,14 @@
 -- How far a tree has come that is made. No public clause cites this file.
-use Rattle.std.specs.Prelude.{◌≡◌, ℕ, ◌+◌, ◌*◌, ◌≤◌, List, [], ◌∷◌, ◌++◌, length, map, Ok}
+use Rattle.std.specs.Prelude.{◌≡◌, ⊤, ℕ, ◌+◌, ◌*◌, ◌≤◌, List, [], ◌∷◌, ◌++◌, length, map, Ok, Option, Some, None}
 use Rattle.dz_poly.specs.Books.{BookValue}
 use Rattle.dz_diff.specs.Operations.{Setting}
 use Rattle.dz_diff.specs.State.{State}
 use Rattle.dz_tree.specs.declared.lines.Line.{Line as ProgramLine}
 use Rattle.dz_tree.specs.Lines.{Entry, Line, lines_of, lines_of_entry}
-use Rattle.dz_tree.specs.Pending.{PendingValue, StackedIn, pending_states}
+use Rattle.dz_tree.specs.Pending.{PendingValue, StackedIn, cut, pending_states}
+use Rattle.dz_tree.specs.declared.drafts.Reached.{Reached}
+use Rattle.dz_engine.specs.declared.facts.Facts.{Facts}
+use Rattle.dz_engine.specs.Facts.{AreKnown}
 use Rattle.dz_tree.specs.TreeLines.{line_of}
 use Rattle.dz_tree.specs.Walk.{Below, entered}
 use Rattle.dz_engine.specs.declared.decomposing.Pending.{Pending}
@@ -28,6 +31,27 @@ pub record ArePushed (book : BookValue) (old new : List Pending) (states : List 
   pub stand : (base : BookValue) → StackedIn base book (stacked old) → StackedIn base book (stacked new)
   pub are : pending_states book (stacked new) ≡ states ++ pending_states book (stacked old)
   pub count : length new ≡ length states + length old
+
+-- the state on top was put there when the book was as it is now
+abbrev pub IsTopOf : BookValue → List PendingValue → Type 0
+IsTopOf book [] = ⊥
+IsTopOf book (p ∷ ps) = p.mark ≡ length book.polynomials
+
+abbrev pub IsTopNew : BookValue → List Pending → Type 0
+IsTopNew book ps = IsTopOf book (stacked ps)
+
+-- and so it is where an entry leaves a state
+abbrev pub IsTopAfter : BookValue → Option Reached → List Pending → Type 0
+IsTopAfter book None ps = ⊤
+IsTopAfter book (Some reached) ps = IsTopNew book ps
+
+-- what is found out is right as soon as the state on top is taken up
+abbrev pub AreKnownBelow : BookValue → List PendingValue → List Facts → Type 0
+AreKnownBelow book [] fs = ⊤
+AreKnownBelow book (p ∷ ps) fs = AreKnown (cut p.mark book) fs
+
+abbrev pub AreKnownOnTop : BookValue → List Pending → List Facts → Type 0
+AreKnownOnTop book ps fs = AreKnownBelow book (stacked ps) fs
 
 -- ---- a turn
 -- at a state the entry that is named is written down, and the states below it stand on the stack

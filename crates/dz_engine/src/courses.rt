@@ -1,14 +1,19 @@
 //! Full runs on members, as the order of work names them.
 
-ghost use Rattle.std.specs.Prelude.{◌≡◌, ◌≤◌, ◌-◌, ◌+◌, ℕ, Some, IfOk, IsSome};
+ghost use Rattle.std.specs.Prelude.{◌≡◌, ◌≤◌, ◌-◌, ◌+◌, ℕ, Some, IfOk, IfErr, IsSome};
+ghost use Rattle.dz_algebra.specs.Norm.{norm};
 ghost use Rattle.dz_algebra.specs.Polynomial.{Polynomial};
+ghost use Rattle.dz_terms.specs.Entries.{IsEntry};
 ghost use Rattle.dz_poly.specs.Books.{BookValue, Lives, polynomial};
 ghost use Rattle.dz_rank.specs.Rankings.{RankingValue};
 ghost use Rattle.dz_rank.specs.declared.symbols.Symbol.{Symbol};
 ghost use Rattle.dz_diff.specs.Operations.{Setting, setting_of};
 ghost use Rattle.dz_diff.specs.State.{State as DefinedState, at_place};
 ghost use Rattle.dz_diff.specs.States.{LiveAll, StandsIn, polynomials, state_in};
-ghost use Rattle.dz_step.specs.FullRun.{Course, full_run};
+ghost use Rattle.dz_step.specs.Attempts.{IsAttemptOf};
+ghost use Rattle.dz_step.specs.Divisors.{AreDivisors};
+ghost use Rattle.dz_step.specs.FullRun.{Course, finished, full_run};
+ghost use Rattle.dz_step.specs.declared.Role.TheVariants.{Free};
 ghost use Rattle.dz_tree.specs.TreeLines.{action_of};
 ghost use Rattle.dz_engine.specs.Finding.{role_in};
 ghost use Rattle.dz_engine.specs.Halting.{IsHalt};
@@ -16,12 +21,15 @@ ghost use Rattle.dz_engine.specs.Naming.{CourseHasEntry, HasEntry, IsAction, IsC
 ghost use Rattle.dz_engine.specs.Naming.{members_of, run_action};
 ghost use Rattle.dz_engine.specs.Order.{by_course};
 
-use crate::admitting::{Members, role_in};
+use crate::admitting::Members;
 use crate::halting::{Halt, halted};
 use crate::naming::{Named, ended};
 use dz_diff::norm_entry;
 use dz_poly::{Book, Limit, Poly};
-use dz_step::{FullRun, Role, RunEnd, State, StepList, member_at, run_fully};
+use dz_step::{
+    Attempt, Divisor, FullRun, Role, RunEnd, State, StepList, member_at, run_fully, run_with,
+};
+use dz_terms::Entry;
 use dz_tree::{Line, Next};
 use std::alloc::{AllocError, Global};
 
@@ -47,22 +55,70 @@ fn halted_course(halt: Halt) -> Coursed
     }
 }
 
-/// The full run on a polynomial.
+/// The full run on the member at a place, from its norm on. What is kept of the divisors is used up.
+fn run_on(
+    book: &Book,
+    state: &State,
+    members: Members,
+    place: u16,
+    start: Entry,
+    budget: u32,
+    table: &mut Vec<Option<Divisor>>,
+) -> Result<FullRun, Attempt>
+    requires stands { StandsIn book.now state.now }
+    requires start { IsEntry book.now.ranking start.terms.items start.degrees.items }
+    requires table { AreDivisors book.now.ranking (state_in book.now state.now) Free table.old.items }
+    requires there { IsSome (at_place place (members_of members (state_in book.now state.now))) }
+    ensures finished { IfOk result (λ x. (f : Polynomial Symbol) → start.terms.items ≡ norm f
+        → full_run (setting_of book.now.ranking) (state_in book.now state.now)
+        (role_in members place) budget f ≡ finished x.run x.end.terms.items x.count) }
+    ensures end { IfOk result (λ x.
+        IsEntry book.now.ranking x.end.terms.items x.end.degrees.items) }
+    ensures stopped { IfErr result (λ a. (f : Polynomial Symbol) → start.terms.items ≡ norm f
+        → IsAttemptOf (full_run (setting_of book.now.ranking) (state_in book.now state.now)
+        (role_in members place) budget f) a.run a.stop) }
+{
+    let alloc = book.allocator();
+    match members {
+        Members::Equations => {
+            // The equation itself is no divisor.
+            table[place as usize - 1] = None;
+            run_with(
+                alloc,
+                book,
+                start,
+                state,
+                Role::Equation(place),
+                budget,
+                table,
+            )
+        }
+        Members::Inequations => {
+            run_fully(alloc, book, start, state, Role::Inequation(place), budget)
+        }
+    }
+}
+
+/// The full run on the member at a place.
 fn course(
     book: &Book,
     state: &State,
-    role: Role,
+    members: Members,
+    place: u16,
     p: Poly,
     budget: u32,
+    table: &mut Vec<Option<Divisor>>,
 ) -> Result<Coursed, AllocError>
     requires stands { StandsIn book.now state.now }
     requires lives { Lives book.now p }
+    requires table { AreDivisors book.now.ranking (state_in book.now state.now) Free table.old.items }
+    requires there { IsSome (at_place place (members_of members (state_in book.now state.now))) }
     ensures course { IfOk result (λ x. IsCoursed x (full_run (setting_of book.now.ranking)
-        (state_in book.now state.now) role budget (polynomial book.now p))) }
+        (state_in book.now state.now) (role_in members place) budget (polynomial book.now p))) }
     ensures entry { IfOk result (λ x. CourseHasEntry book.now.ranking x) }
 {
     let norm = norm_entry(book, p)?;
-    match run_fully(book.allocator(), book, norm, state, role, budget) {
+    match run_on(book, state, members, place, norm, budget, table) {
         Ok(FullRun { run, end, count }) => Ok(Coursed::Ended(
             run,
             RunEnd {
@@ -133,10 +189,12 @@ pub(crate) fn run_named(
     place: u16,
     weight: u32,
     budget: u32,
+    table: &mut Vec<Option<Divisor>>,
 ) -> Result<Named, AllocError>
     requires stands { StandsIn book.now state.now }
     requires within { weight ≤ budget }
     requires most { budget ≤ 20000000 }
+    requires table { AreDivisors book.now.ranking (state_in book.now state.now) Free table.old.items }
     requires there { IsSome (at_place place (members_of members (state_in book.now state.now))) }
     ensures entry { IfOk result (λ x. HasEntry book.now.ranking x) }
     ensures named { IfOk result (λ x. (p : Polynomial Symbol)
@@ -150,6 +208,6 @@ pub(crate) fn run_named(
         unreachable!()
     };
     let left = budget.saturating_sub(weight + 1);
-    let coursed = course(book, state, role_in(members, place), p, left)?;
+    let coursed = course(book, state, members, place, p, left, table)?;
     course_named(book.allocator(), members, place, coursed)
 }

@@ -10,9 +10,11 @@ ghost use Rattle.dz_diff.specs.States.{IsStateOf, StandsIn, state_in};
 ghost use Rattle.dz_tree.specs.Belonging.{IsLineOf};
 ghost use Rattle.dz_tree.specs.Systems.{IsSystemIn, system_in};
 ghost use Rattle.dz_engine.specs.Naming.{AfterStands, after_in};
-ghost use Rattle.dz_engine.specs.Turning.{ArePushed, AreWorkedLines, IsTurn};
+ghost use Rattle.dz_engine.specs.Facts.{AreKnown};
+ghost use Rattle.dz_engine.specs.Turning.{AreKnownOnTop, ArePushed, AreWorkedLines, IsTopAfter, IsTopNew, IsTurn};
 ghost use Rattle.dz_engine.specs.Worked.{IsWorked};
 
+use crate::facts::Facts;
 use crate::working::{Worked, work};
 use dz_poly::{Book, BookMark};
 use dz_step::State;
@@ -39,8 +41,9 @@ struct Progress {
 fn push_state(book: &Book, pending: &mut Vec<Pending>, state: State) -> Result<(), AllocError>
     requires stands { StandsIn book.now state }
     requires facts { IsStateOf (symbols_under book.now.ranking) (state_in book.now state) }
-    ensures { OnOk result (ArePushed book.now pending.old.items pending.new.items
+    ensures pushed { OnOk result (ArePushed book.now pending.old.items pending.new.items
         (state_in book.now state ∷ [])) }
+    ensures top { OnOk result (IsTopNew book.now pending.new.items) }
 {
     pending.push(Pending {
         state,
@@ -57,8 +60,9 @@ fn push_states(
 ) -> Result<(), AllocError>
     requires stand { AfterStands book.now after }
     requires facts { AllOf (IsStateOf (symbols_under book.now.ranking)) (after_in book.now after) }
-    ensures { OnOk result (ArePushed book.now pending.old.items pending.new.items
+    ensures pushed { OnOk result (ArePushed book.now pending.old.items pending.new.items
         (after_in book.now after)) }
+    ensures top { OnOk result (IsTopAfter book.now after pending.new.items) }
 {
     match after {
         None => Ok(()),
@@ -77,11 +81,14 @@ fn turn(
     state: &State,
     budget: u32,
     progress: &mut Progress,
+    facts: &mut Vec<Facts>,
 ) -> Result<(), AllocError>
     requires stands { StandsIn book.old state.now }
     requires facts { IsStateOf (symbols_under book.old.ranking) (state_in book.old state.now) }
     requires within { progress.old.weight ≤ budget }
     requires most { budget ≤ 20000000 }
+    requires known { AreKnown book.old facts.old.items }
+    ensures known { OnOk result (AreKnownOnTop book.new progress.new.pending.items facts.new.items) }
     ensures turn { OnOk result (IsTurn (setting_of book.old.ranking) budget
         (state_in book.old state.now) book.old book.new progress.old progress.new) }
     ensures kept { IsKept book.old book.new }
@@ -89,12 +96,16 @@ fn turn(
     // The facts of all books are known of this one: a ranking has few independents and dependents.
     book.opened();
     let _ = book.ranking().signature();
-    let worked = work(alloc, book, state, progress.weight, budget)?;
+    let worked = work(alloc, book, state, progress.weight, budget, facts)?;
     let Worked {
         lines,
         weight,
         after,
     } = worked;
+    if after.is_none() {
+        // The branch is done, and its polynomials are given up.
+        facts.clear();
+    }
     let mut lines = lines;
     progress.lines.append(&mut lines)?;
     push_states(book, &mut progress.pending, after)?;
@@ -122,12 +133,13 @@ fn worked_lines(
         pending: Vec::new(alloc),
     };
     push_state(book, &mut progress.pending, root)?;
+    let mut facts = Vec::new(alloc);
     'states: loop {
         let Some(Pending { state, mark }) = progress.pending.pop() else {
             return Ok(progress.lines);
         };
         book.restore(mark);
-        turn(alloc, book, &state, budget, &mut progress)?;
+        turn(alloc, book, &state, budget, &mut progress, &mut facts)?;
     }
 }
 

@@ -8,12 +8,14 @@ ghost use Rattle.dz_terms.specs.Ranked.{symbols_under};
 ghost use Rattle.dz_diff.specs.States.{StandsIn, state_in};
 ghost use Rattle.dz_diff.specs.Tests.{is_member};
 ghost use Rattle.dz_step.specs.Division.{is_divided};
+ghost use Rattle.dz_engine.specs.Facts.{AreFactsOf, AreKnown, names_of};
 ghost use Rattle.dz_engine.specs.Finding.{divisible, inequation_dividing};
 
+use crate::facts::Facts;
 use dz_diff::is_among;
 use dz_poly::Book;
 use dz_rank::Symbol;
-use dz_step::{State, divided_entry};
+use dz_step::{State, is_divided};
 use dz_terms::{Entry, power};
 use std::alloc::AllocError;
 
@@ -26,16 +28,6 @@ pub(crate) fn is_inequation(book: &Book, state: &State, v: Symbol) -> Result<boo
 {
     let symbol = power(book.allocator(), 1, v, 1)?;
     Ok(is_among(book, state.inequations(), 0, &symbol))
-}
-
-/// Whether a symbol divides an entry.
-pub(crate) fn is_divided(book: &Book, entry: &Entry, v: Symbol) -> Result<bool, AllocError>
-    requires { IsEntry book.now.ranking entry.now.terms.items entry.now.degrees.items }
-    ensures { IfOk result (λ b.
-        b ≡ is_divided (ranking_cmp book.now.ranking) v entry.now.terms.items) }
-{
-    let quotient = divided_entry(book.allocator(), book.ranking(), entry, v)?;
-    Ok(quotient.is_some())
 }
 
 /// Whether a symbol is an inequation and divides an entry.
@@ -51,7 +43,7 @@ fn divides_as_inequation(
         (symbol_polynomial v) (state_in book.now state.now).inequations
         && is_divided (ranking_cmp book.now.ranking) v entry.now.terms.items)) }
 {
-    if !is_divided(book, entry, v)? {
+    if !is_divided(book.ranking(), entry, v) {
         return Ok(false);
     }
     is_inequation(book, state, v)
@@ -62,12 +54,17 @@ fn inequation_dividing(
     book: &Book,
     state: &State,
     entry: &Entry,
+    facts: &Facts,
 ) -> Result<Option<Symbol>, AllocError>
     requires stands { StandsIn book.now state.now }
     requires entry { IsEntry book.now.ranking entry.now.terms.items entry.now.degrees.items }
+    requires facts { AreFactsOf book.now.ranking entry.now.terms.items facts.now }
     ensures { IfOk result (λ o. o ≡ inequation_dividing (symbols_under book.now.ranking)
         (state_in book.now state.now) entry.now.terms.items) }
 {
+    if facts.is_undivided {
+        return Ok(None);
+    }
     let table = entry.symbol_degrees();
     'symbols: for k in 0..table.len() {
         let v = table[k].0;
@@ -79,14 +76,20 @@ fn inequation_dividing(
 }
 
 /// The first equation that an inequation divides, with the greatest such symbol.
-pub(crate) fn divisible(book: &Book, state: &State) -> Result<Option<(u16, Symbol)>, AllocError>
-    requires { StandsIn book.now state.now }
+pub(crate) fn divisible(
+    book: &Book,
+    state: &State,
+    facts: &[Facts],
+) -> Result<Option<(u16, Symbol)>, AllocError>
+    requires stands { StandsIn book.now state.now }
+    requires known { AreKnown book.now facts.now }
+    requires names { names_of facts.now ≡ state.now.equations }
     ensures { IfOk result (λ o. o ≡ divisible (symbols_under book.now.ranking)
         (state_in book.now state.now)) }
 {
     let polys = state.equations();
     'places: for k in 0..polys.len() {
-        if let Some(v) = inequation_dividing(book, state, book.entry(polys[k]))? {
+        if let Some(v) = inequation_dividing(book, state, book.entry(polys[k]), &facts[k])? {
             return Ok(Some(((k + 1) as u16, v)));
         }
     }

@@ -8,12 +8,14 @@ ghost use Rattle.dz_terms.specs.Ranked.{symbols_under};
 ghost use Rattle.dz_diff.specs.States.{StandsIn, state_in};
 ghost use Rattle.dz_diff.specs.Tests.{is_member, same};
 ghost use Rattle.dz_step.specs.Division.{is_divided};
+ghost use Rattle.dz_engine.specs.Facts.{AreFactsOf, AreKnown, names_of};
 ghost use Rattle.dz_engine.specs.Finding.{factor_of, factorable};
 
-use crate::dividing::{is_divided, is_inequation};
+use crate::dividing::is_inequation;
+use crate::facts::Facts;
 use dz_poly::Book;
 use dz_rank::Symbol;
-use dz_step::State;
+use dz_step::{State, is_divided};
 use dz_terms::{Entry, power, same_entries};
 use std::alloc::AllocError;
 
@@ -36,7 +38,7 @@ fn is_factor(book: &Book, state: &State, entry: &Entry, v: Symbol) -> Result<boo
         && not (is_member (symbols_under book.now.ranking) (symbol_polynomial v)
         (state_in book.now state.now).inequations))) }
 {
-    if !is_divided(book, entry, v)? {
+    if !is_divided(book.ranking(), entry, v) {
         return Ok(false);
     }
     if is_symbol(book, entry, v)? {
@@ -47,12 +49,21 @@ fn is_factor(book: &Book, state: &State, entry: &Entry, v: Symbol) -> Result<boo
 }
 
 /// The greatest derivative that can be factored out of an entry.
-fn factor_of(book: &Book, state: &State, entry: &Entry) -> Result<Option<Symbol>, AllocError>
+fn factor_of(
+    book: &Book,
+    state: &State,
+    entry: &Entry,
+    facts: &Facts,
+) -> Result<Option<Symbol>, AllocError>
     requires stands { StandsIn book.now state.now }
     requires entry { IsEntry book.now.ranking entry.now.terms.items entry.now.degrees.items }
+    requires facts { AreFactsOf book.now.ranking entry.now.terms.items facts.now }
     ensures { IfOk result (λ o. o ≡ factor_of (symbols_under book.now.ranking)
         (state_in book.now state.now) entry.now.terms.items) }
 {
+    if facts.is_undivided {
+        return Ok(None);
+    }
     let table = entry.symbol_degrees();
     'symbols: for k in 0..table.len() {
         let v = table[k].0;
@@ -67,14 +78,20 @@ fn factor_of(book: &Book, state: &State, entry: &Entry) -> Result<Option<Symbol>
 }
 
 /// The first equation with such a factor, with the greatest one.
-pub(crate) fn factorable(book: &Book, state: &State) -> Result<Option<(u16, Symbol)>, AllocError>
-    requires { StandsIn book.now state.now }
+pub(crate) fn factorable(
+    book: &Book,
+    state: &State,
+    facts: &[Facts],
+) -> Result<Option<(u16, Symbol)>, AllocError>
+    requires stands { StandsIn book.now state.now }
+    requires known { AreKnown book.now facts.now }
+    requires names { names_of facts.now ≡ state.now.equations }
     ensures { IfOk result (λ o. o ≡ factorable (symbols_under book.now.ranking)
         (state_in book.now state.now)) }
 {
     let polys = state.equations();
     'places: for k in 0..polys.len() {
-        if let Some(v) = factor_of(book, state, book.entry(polys[k]))? {
+        if let Some(v) = factor_of(book, state, book.entry(polys[k]), &facts[k])? {
             return Ok(Some(((k + 1) as u16, v)));
         }
     }

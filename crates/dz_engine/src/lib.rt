@@ -11,6 +11,7 @@ mod courses;
 mod decomposing;
 mod dividing;
 mod factoring;
+mod facts;
 mod halting;
 pub mod laws;
 mod naming;

@@ -7,7 +7,9 @@ ghost use Rattle.dz_terms.specs.Ranked.{symbols_under};
 ghost use Rattle.dz_diff.specs.Operations.{Setting, setting_of};
 ghost use Rattle.dz_diff.specs.State.{State as DefinedState};
 ghost use Rattle.dz_diff.specs.States.{StandsIn, state_in};
+ghost use Rattle.dz_step.specs.Divisors.{AreDivisors};
 ghost use Rattle.dz_step.specs.FullRun.{Course};
+ghost use Rattle.dz_step.specs.declared.Role.TheVariants.{Free};
 ghost use Rattle.dz_tree.specs.Chain.{Evidence};
 ghost use Rattle.dz_tree.specs.Lines.{pair};
 ghost use Rattle.dz_tree.specs.TreeLines.{line_of};
@@ -20,7 +22,7 @@ use crate::halting::{Halt, halted};
 use crate::naming::{Named, ended};
 use dz_pair::{delta_entry, pairs};
 use dz_poly::{Book, Limit, PolyStop};
-use dz_step::{FullRun, Role, State, StepList, member_at, run_fully};
+use dz_step::{Divisor, FullRun, Role, State, StepList, member_at, run_with};
 use dz_terms::{Entry, into_norm};
 use dz_tree::{Line, Next};
 use std::alloc::{AllocError, Global};
@@ -53,10 +55,13 @@ fn delta_course(
     state: &State,
     delta: Entry,
     left: u32,
+    table: &mut Vec<Option<Divisor>>,
 ) -> Result<PairCourse, AllocError>
     requires stands { StandsIn book.now state.now }
+    requires table { AreDivisors book.now.ranking (state_in book.now state.now) Free table.old.items }
     requires delta { IsEntry book.now.ranking delta.terms.items delta.degrees.items }
-    ensures { IfOk result (λ x. (budget w i j : ℕ) → w ≤ budget → left ≡ budget - w
+    ensures table { AreDivisors book.now.ranking (state_in book.now state.now) Free table.new.items }
+    ensures course { IfOk result (λ x. (budget w i j : ℕ) → w ≤ budget → left ≡ budget - w
         → delta_at (setting_of book.now.ranking) (state_in book.now state.now) (i, j)
         ≡ Ok delta.terms.items
         → IsPairCourse (setting_of book.now.ranking) budget w (state_in book.now state.now)
@@ -67,13 +72,14 @@ fn delta_course(
         return Ok(PairCourse::Spent(StepList::new(book.allocator())));
     }
     let rest = left - 1 - terms as u32;
-    match run_fully(
+    match run_with(
         book.allocator(),
         book,
         into_norm(delta),
         state,
         Role::Free,
         rest,
+        table,
     ) {
         Ok(FullRun { run, end, count }) => {
             if !end.is_zero() {
@@ -95,11 +101,14 @@ fn pair_course(
     first: u16,
     second: u16,
     left: u32,
+    table: &mut Vec<Option<Divisor>>,
 ) -> Result<PairCourse, AllocError>
     requires stands { StandsIn book.now state.now }
+    requires table { AreDivisors book.now.ranking (state_in book.now state.now) Free table.old.items }
     requires pair { IsPairAt (symbols_under book.now.ranking) (state_in book.now state.now)
         first second }
-    ensures { IfOk result (λ x. (budget w : ℕ) → w ≤ budget → left ≡ budget - w
+    ensures table { AreDivisors book.now.ranking (state_in book.now state.now) Free table.new.items }
+    ensures course { IfOk result (λ x. (budget w : ℕ) → w ≤ budget → left ≡ budget - w
         → IsPairCourse (setting_of book.now.ranking) budget w (state_in book.now state.now)
         (first, second) x) }
 {
@@ -115,7 +124,7 @@ fn pair_course(
         book.entry(p),
         book.entry(q),
     ) {
-        Ok(delta) => delta_course(book, state, delta, left),
+        Ok(delta) => delta_course(book, state, delta, left, table),
         Err(PolyStop::Memory) => Err(AllocError),
         Err(PolyStop::Wide) => Ok(PairCourse::Wide(StepList::new(book.allocator()))),
         Err(PolyStop::Large(limit)) => {
@@ -159,11 +168,14 @@ fn one_pair(
     second: u16,
     budget: u32,
     so_far: &mut SoFar,
+    table: &mut Vec<Option<Divisor>>,
 ) -> Result<Option<Named>, AllocError>
     requires stands { StandsIn book.now state.now }
+    requires table { AreDivisors book.now.ranking (state_in book.now state.now) Free table.old.items }
     requires pair { IsPairAt (symbols_under book.now.ranking) (state_in book.now state.now)
         first second }
     requires within { so_far.old.spent ≤ budget }
+    ensures table { AreDivisors book.now.ranking (state_in book.now state.now) Free table.new.items }
     ensures within { so_far.new.spent ≤ budget }
     ensures entry { IfOk result (λ o. IfSome o (λ x. (r : RankingValue) → HasEntry r x)) }
     ensures onward { IfOk result (λ o. (weight : ℕ) (ps : List (ℕ × ℕ))
@@ -173,7 +185,8 @@ fn one_pair(
         so_far.new.lines.items so_far.new.spent ps o) }
 {
     let alloc = book.allocator();
-    match pair_course(book, state, first, second, budget - so_far.spent)? {
+    let left = budget - so_far.spent;
+    match pair_course(book, state, first, second, left, table)? {
         PairCourse::Zero(run, cost) => {
             so_far.lines.push(Line::Pair { first, second, run })?;
             so_far.spent += cost;
@@ -202,8 +215,10 @@ pub(crate) fn pairs_named(
     state: &State,
     weight: u32,
     budget: u32,
+    table: &mut Vec<Option<Divisor>>,
 ) -> Result<Named, AllocError>
     requires stands { StandsIn book.now state.now }
+    requires table { AreDivisors book.now.ranking (state_in book.now state.now) Free table.old.items }
     requires within { weight ≤ budget }
     ensures entry { IfOk result (λ x. (r : RankingValue) → HasEntry r x) }
     ensures named { IfOk result (λ x. IsOnward (setting_of book.now.ranking) budget weight
@@ -216,7 +231,8 @@ pub(crate) fn pairs_named(
     };
     'pairs: for k in 0..found.len() {
         let (first, second) = found[k];
-        if let Some(named) = one_pair(book, state, first, second, budget, &mut so_far)? {
+        let named = one_pair(book, state, first, second, budget, &mut so_far, table)?;
+        if let Some(named) = named {
             return Ok(named);
         }
     }

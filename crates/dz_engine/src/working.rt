@@ -1,6 +1,6 @@
 //! What the order of work does at a state.
 
-ghost use Rattle.std.specs.Prelude.{◌≡◌, ◌≤◌, ℕ, false, map, IfOk, MatchResult};
+ghost use Rattle.std.specs.Prelude.{◌≡◌, ◌≤◌, ℕ, false, map, IfOk, OnOk, MatchResult};
 ghost use Rattle.dz_poly.specs.Books.{BookValue, IsKept};
 ghost use Rattle.dz_terms.specs.Ranked.{symbols_under};
 ghost use Rattle.dz_diff.specs.Operations.{Setting, setting_of};
@@ -11,9 +11,11 @@ ghost use Rattle.dz_tree.specs.Lines.{lines_of_entry};
 ghost use Rattle.dz_tree.specs.Moves.{perform};
 ghost use Rattle.dz_tree.specs.Parts.{is_act};
 ghost use Rattle.dz_tree.specs.TreeLines.{action_of, line_of};
+ghost use Rattle.dz_engine.specs.Facts.{AreKnown};
 ghost use Rattle.dz_engine.specs.Naming.{IsAction, IsDone};
 ghost use Rattle.dz_engine.specs.Order.{line_alone, next_entry, plain};
 
+use crate::facts::Facts;
 use crate::naming::{Named, acted, entry_named};
 use dz_poly::Book;
 use dz_step::State;
@@ -120,17 +122,20 @@ pub(crate) fn work(
     state: &State,
     weight: u32,
     budget: u32,
+    facts: &mut Vec<Facts>,
 ) -> Result<Worked, AllocError>
     requires stands { StandsIn book.old state.now }
     requires facts { IsStateOf (symbols_under book.old.ranking) (state_in book.old state.now) }
     requires within { weight ≤ budget }
     requires most { budget ≤ 20000000 }
+    requires known { AreKnown book.old facts.old.items }
+    ensures known { OnOk result (AreKnown book.new facts.new.items) }
     ensures done { IfOk result (λ x. IsDone book.new (setting_of book.old.ranking)
         (state_in book.old state.now) x (next_entry (setting_of book.old.ranking) budget weight
         (state_in book.old state.now))) }
     ensures kept { IsKept book.old book.new }
 {
-    let named = entry_named(book, state, weight, budget)?;
+    let named = entry_named(book, state, weight, budget, facts)?;
     match named {
         Named::Perform(next) => {
             let answer = perform_next(alloc, book, state, &next);
@@ -166,7 +171,8 @@ pub fn next_line(
     ensures book { book.new ≡ book.old }
 {
     let mark = book.mark();
-    let worked = work(alloc, book, state, weight, budget);
+    let mut facts = Vec::new(alloc);
+    let worked = work(alloc, book, state, weight, budget, &mut facts);
     book.restore(mark);
     match worked {
         Ok(Worked { lines, .. }) => Ok(lines),

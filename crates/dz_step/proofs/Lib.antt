@@ -20,3 +20,4 @@ pub mod Searches
 pub mod Advances
 pub mod PowerQuotients
 pub mod MultipleTables
+pub mod OwnDivisors

@@ -34,6 +34,11 @@ pub record IsDivisorOf (r : RankingValue) (hs : Polynomials) (q : Polynomial Sym
   pub initial_is : IsAnswerTo (is_multiplier r hs Initial d.lead q) d.initial
   pub separant_is : IsAnswerTo (is_multiplier r hs Separant d.lead q) d.separant
 
+-- these are the answers for the multipliers of q, if it has a leader
+pub record AreAnswersOf (r : RankingValue) (hs : Polynomials) (q : Polynomial Symbol) (initial separant : Bool) : Type 0 where
+  pub initial_is : (l : Symbol) → leader (symbols_under r) q ≡ Some l → initial ≡ is_multiplier r hs Initial l q
+  pub separant_is : (l : Symbol) → leader (symbols_under r) q ≡ Some l → separant ≡ is_multiplier r hs Separant l q
+
 -- and nothing is kept of one at place j only where it is no divisor
 abbrev pub IsKeptOf : RankingValue → Polynomials → Role → ℕ → Polynomial Symbol → Option Divisor → Type 0
 IsKeptOf r hs role j q None = (is_divisor role j ≡ false) ⊎ (leader (symbols_under r) q ≡ None)

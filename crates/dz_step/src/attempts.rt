@@ -198,12 +198,13 @@ fn run_out(
     book: &Book,
     state: &State,
     role: Role,
-    table: Vec<Option<Divisor>>,
+    table: &mut Vec<Option<Divisor>>,
     first: Progress,
 ) -> Result<Progress, Attempt>
     requires stands { StandsIn book.now state.now }
-    requires table { AreDivisors book.now.ranking (state_in book.now state.now) role table.items }
+    requires table { AreDivisors book.now.ranking (state_in book.now state.now) role table.old.items }
     requires rest { IsEntry book.now.ranking first.rest.terms.items first.rest.degrees.items }
+    ensures table { AreDivisors book.now.ranking (state_in book.now state.now) role table.new.items }
     ensures ok { IfOk result (λ p. (budget : ℕ) (f : Polynomial Symbol)
         → IsAt book.now.ranking (state_in book.now state.now) role budget f first
         → full_run (setting_of book.now.ranking) (state_in book.now state.now) role budget f
@@ -216,10 +217,9 @@ fn run_out(
         → IsAttemptOf (full_run (setting_of book.now.ranking) (state_in book.now state.now) role budget f)
         a.run a.stop) }
 {
-    let mut table = table;
     let mut progress = first;
     'turns: loop {
-        match advance(book, state, role, &mut table, &mut progress) {
+        match advance(book, state, role, table, &mut progress) {
             Ok(true) => {}
             Ok(false) => return Ok(progress),
             Err(stop) => {
@@ -253,7 +253,45 @@ pub struct FullRun {
 }
 
 /// The full run from an entry on, which is the norm of `f`, at a state in a role within a budget,
-/// with its end and its count.
+/// with its end and its count. More may be kept of the divisors after it.
+pub fn run_with(
+    alloc: Global,
+    book: &Book,
+    start: Entry,
+    state: &State,
+    role: Role,
+    budget: u32,
+    table: &mut Vec<Option<Divisor>>,
+) -> Result<FullRun, Attempt>
+    requires stands { StandsIn book.now state.now }
+    requires start { IsEntry book.now.ranking start.terms.items start.degrees.items }
+    requires table { AreDivisors book.now.ranking (state_in book.now state.now) role table.old.items }
+    ensures table { AreDivisors book.now.ranking (state_in book.now state.now) role table.new.items }
+    ensures finished { IfOk result (λ x. (f : Polynomial Symbol) → start.terms.items ≡ norm f
+        → full_run (setting_of book.now.ranking) (state_in book.now state.now) role budget f
+        ≡ finished x.run x.end.terms.items x.count) }
+    ensures end { IfOk result (λ x.
+        IsEntry book.now.ranking x.end.terms.items x.end.degrees.items) }
+    ensures stopped { IfErr result (λ a. (f : Polynomial Symbol) → start.terms.items ≡ norm f
+        → IsAttemptOf (full_run (setting_of book.now.ranking) (state_in book.now state.now) role
+        budget f) a.run a.stop) }
+{
+    let first = Progress {
+        run: StepList::new(alloc),
+        rest: start,
+        left: budget,
+    };
+    match run_out(book, state, role, table, first) {
+        Ok(Progress { run, rest, left }) => Ok(FullRun {
+            run,
+            end: rest,
+            count: budget - left,
+        }),
+        Err(attempt) => Err(attempt),
+    }
+}
+
+/// The same, where nothing is known of the divisors.
 pub fn run_fully(
     alloc: Global,
     book: &Book,
@@ -276,19 +314,8 @@ pub fn run_fully(
     let Ok(table) = divisors_of(book, state, role) else {
         return Err(no_memory(alloc));
     };
-    let first = Progress {
-        run: StepList::new(alloc),
-        rest: start,
-        left: budget,
-    };
-    match run_out(book, state, role, table, first) {
-        Ok(Progress { run, rest, left }) => Ok(FullRun {
-            run,
-            end: rest,
-            count: budget - left,
-        }),
-        Err(attempt) => Err(attempt),
-    }
+    let mut table = table;
+    run_with(alloc, book, start, state, role, budget, &mut table)
 }
 
 /// The full run on `f` at a state in a role within a budget, with its end.

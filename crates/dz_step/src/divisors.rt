@@ -1,13 +1,14 @@
 //! What a full run keeps of the divisors of a state, so that each is looked at once.
 
-ghost use Rattle.std.specs.Prelude.{◌≡◌, Some, IfOk};
+ghost use Rattle.std.specs.Prelude.{◌≡◌, ℕ, Some, IfOk};
 ghost use Rattle.dz_algebra.specs.Polynomial.{Polynomial};
 ghost use Rattle.dz_rank.specs.Rankings.{RankingValue};
 ghost use Rattle.dz_rank.specs.declared.symbols.Symbol.{Symbol};
 ghost use Rattle.dz_terms.specs.Entries.{IsEntry};
 ghost use Rattle.dz_diff.specs.States.{StandsIn, state_in};
 ghost use Rattle.dz_diff.specs.Tests.{Polynomials};
-ghost use Rattle.dz_step.specs.Divisors.{AreDivisors, IsDivisorOf, IsKeptOf, is_multiplier};
+ghost use Rattle.dz_step.specs.Divisors.{AreAnswersOf, AreDivisors, IsDivisorOf, IsKeptOf, is_multiplier};
+ghost use Rattle.dz_step.specs.declared.Role.TheVariants.{Free};
 ghost use Rattle.dz_step.specs.Step.{is_divisor, usable};
 
 use crate::permission::is_granted;
@@ -105,6 +106,20 @@ fn with_answer(divisor: Divisor, which: Which, granted: bool) -> Divisor
             ..divisor
         },
     }
+}
+
+/// What is kept of an equation without a role where both its multipliers were asked for.
+pub fn asked_divisor(ranking: &Ranking, q: &Entry, initial: bool, separant: bool) -> Option<Divisor>
+    requires { IsEntry ranking.now q.now.terms.items q.now.degrees.items }
+    ensures { (hs : Polynomials) (place : ℕ)
+        → AreAnswersOf ranking.now hs q.now.terms.items initial separant
+        → IsKeptOf ranking.now hs Free place q.now.terms.items result }
+{
+    let Some(divisor) = unasked(ranking, Role::Free, 1, q) else {
+        return None;
+    };
+    let with_initial = with_answer(divisor, Which::Initial, initial);
+    Some(with_answer(with_initial, Which::Separant, separant))
 }
 
 /// Whether a multiplier of a divisor is permitted, and the divisor with this answer: only where it

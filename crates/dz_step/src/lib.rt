@@ -20,9 +20,9 @@ mod searching;
 pub mod stepping;
 mod steps;
 
-pub use attempts::{Attempt, AttemptStop, FullRun, reduce_fully, run_fully};
-pub use dividing::{divided_entry, divides_exactly};
-pub use divisors::{Divisor, divisors_of};
+pub use attempts::{Attempt, AttemptStop, FullRun, reduce_fully, run_fully, run_with};
+pub use dividing::{divided_entry, divides_exactly, is_divided};
+pub use divisors::{Divisor, asked_divisor, divisors_of};
 pub use dz_diff::State;
 use dz_rank::Operator;
 pub use multiples::{has_proper_derivative, is_reducible};

@@ -1,4 +1,4 @@
-use Rattle.std.proofs.Common.{◌∙◌, ◌-◌, ◌+◌, sym}
+use Rattle.std.proofs.Common.{◌∙◌, ◌-◌, ◌+◌, refl, sym}
 use Rattle.dz_poly.specs.Books.{polynomial}
 use Rattle.dz_diff.specs.Operations.{setting_of}
 use Rattle.dz_diff.specs.States.{state_in}
@@ -23,5 +23,5 @@ returns-clause-named c =
     let g = setting_of book.ranking in
     let s = state_in book c.args.state.now in
     if_ok _ _ c.course_named.result (λ x f p there. f g c.args.budget c.args.weight (c.args.budget - (c.args.weight + 1)) s p there
-    (course_is g s c.in_ok-coursed.coursed c.role_in.result (role_in c.args.members c.args.place) c.saturating_sub-left.result (c.args.budget - (c.args.weight + 1)) (polynomial book c.in-Some.p) p c.role_in.ensures c.saturating_sub-left.ensures
+    (course_is g s c.in_ok-coursed.coursed (role_in c.args.members c.args.place) (role_in c.args.members c.args.place) c.saturating_sub-left.result (c.args.budget - (c.args.weight + 1)) (polynomial book c.in-Some.p) p refl c.saturating_sub-left.ensures
     (member_is book c.members_of.result.now (members_of c.args.members s) c.args.place c.in-Some.p p (c.members_of.ensures.value book) (sym c.member_at.ensures ∙ c.in-Some.is) there) c.in_ok-coursed.ensures.course)) c.course_named.ensures.named

@@ -23,4 +23,4 @@ returns-clause-turn c =
     let book = c.args.book.now in
     let few : book.ranking.signature.independents ≤ 4 = subst (λ (r : RankingValue). r.signature.independents ≤ 4) c.ranking.ensures c.signature.ensures.ranking.few_independents in
     turned book few c.args.budget c.args.progress.now (state_in book c.args.state.now) (state_over book c.opened.ensures c.args.state.now c.requires.stands c.requires.facts) c.requires.within c.work.new.book c.in_ok-worked.ensures.kept c.in_ok-worked.worked c.in_ok-worked.ensures.done
-    _ refl c.in_ok-append.ensures.items c.in_ok-push_states.ensures
+    _ refl c.in_ok-append.ensures.items c.in_ok-push_states.ensures.pushed

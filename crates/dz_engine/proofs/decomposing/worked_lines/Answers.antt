@@ -4,6 +4,8 @@ use Rattle.dz_poly.specs.Books.{BookValue}
 use Rattle.dz_diff.specs.Operations.{setting_of}
 use Rattle.dz_diff.specs.States.{IsStateOf, StandsIn, state_in}
 use Rattle.dz_engine.specs.declared.decomposing.Progress.{Progress}
+use Rattle.dz_engine.specs.Facts.{AreKnown}
+use Rattle.dz_engine.proofs.KnownTops.{known_taken}
 use Rattle.dz_engine.proofs.Turns.{IsTaken, come_last, comes_on, keeps_below, none_pending, on_top, stands_again, within_again}
 use Rattle.dz_engine.proofs.decomposing.worked_lines.Goals as goal
 
@@ -34,4 +36,9 @@ states-preserved c =
       within_again c.args.book.now c.states.book c.restore.new.self c.turn.new.book c.args.budget root old c.turn.new.progress c.states.progress.pending.items c.in-Some.field-0 c.in-Some.ensures.items h,
       stands_again c.args.book.now c.states.book c.restore.new.self c.turn.new.book c.args.budget root old c.turn.new.progress c.states.progress.pending.items c.in-Some.field-0 c.in-Some.ensures.items h,
       comes_on c.args.book.now c.states.book c.restore.new.self c.turn.new.book c.args.budget root old c.turn.new.progress c.states.progress.pending.items c.in-Some.field-0 c.in-Some.ensures.items h,
+      c.in_ok-turn.ensures.known,
     )
+
+pub turn-requires-clause-known : goal.turn-requires-clause-known
+turn-requires-clause-known c =
+    subst (λ (b : BookValue). AreKnown b c.states.facts.items) (sym c.restore.ensures) (known_taken c.states.book c.states.progress.pending.items c.pop.new.self.items c.in-Some.field-0 c.states.facts.items c.in-Some.ensures.items c.states.invariant.3)

@@ -10,6 +10,7 @@ use Rattle.dz_step.specs.Division.{is_divided}
 use Rattle.dz_engine.specs.Finding.{inequation_dividing}
 use Rattle.dz_engine.specs.Order.{first_symbol}
 use Rattle.dz_engine.proofs.Findings.{symbol_ends, symbol_here, symbol_later, symbols_stand}
+use Rattle.dz_engine.proofs.KnownFacts.{no_dividing}
 use Rattle.dz_engine.proofs.dividing.inequation_dividing.Goals as goal
 
 pub symbols-init : goal.symbols-init
@@ -43,3 +44,6 @@ returns c =
     let f = c.args.entry.now.terms.items in
     symbol_ends (λ v. is_member (symbols_under book.ranking) (symbol_polynomial v) s.inequations && is_divided (ranking_cmp book.ranking) v f) c.symbol_degrees-table.result.now c.symbols.k (inequation_dividing (symbols_under book.ranking) s f)
     c.symbols.invariant (omega (arith, c.symbols-test.false))
+
+pub returns-then-facts : goal.returns-then-facts
+returns-then-facts c = no_dividing c.args.book.now.ranking c.args.entry.now.terms.items (sym c.requires.facts.undivided_is ∙ c.if-facts.true) (state_in c.args.book.now c.args.state.now)

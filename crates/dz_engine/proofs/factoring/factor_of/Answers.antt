@@ -13,6 +13,7 @@ use Rattle.dz_step.proofs.Searches.{derivatives_stand}
 use Rattle.dz_engine.specs.Finding.{factor_of}
 use Rattle.dz_engine.specs.Order.{first_symbol}
 use Rattle.dz_engine.proofs.Findings.{derivative_ends, derivative_here, derivative_later, derivative_none}
+use Rattle.dz_engine.proofs.KnownFacts.{no_factor}
 use Rattle.dz_engine.proofs.factoring.factor_of.Goals as goal
 
 -- the test of a factor
@@ -53,3 +54,6 @@ returns c =
     let s = state_in book c.args.state.now in
     let f = c.args.entry.now.terms.items in
     derivative_ends (test book.ranking s f) c.symbol_degrees-table.result.now c.symbols.k (factor_of (symbols_under book.ranking) s f) c.symbols.invariant (omega (arith, c.symbols-test.false))
+
+pub returns-then-facts : goal.returns-then-facts
+returns-then-facts c = no_factor c.args.book.now.ranking c.args.entry.now.terms.items (sym c.requires.facts.undivided_is ∙ c.if-facts.true) (state_in c.args.book.now c.args.state.now) c.args.entry.now.degrees.items c.requires.entry

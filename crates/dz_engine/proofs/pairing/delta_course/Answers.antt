@@ -16,8 +16,8 @@ overflow_add-result-in-Ok c =
     let low = full_run_low g s Free (c.args.left - 1 - c.term_count-terms.result) d c.in-Ok.field-0.run c.in-Ok.field-0.end.terms.items c.in-Ok.field-0.count (c.in-Ok.ensures.finished d c.into_norm.ensures.terms) in
     omega (arith, low, c.if-terms-left.false, c.ranges.left)
 
-pub returns-else-not-is_zero : goal.returns-else-not-is_zero
-returns-else-not-is_zero c = λ budget w i j low left_is delta_is.
+pub returns-else-not-is_zero-clause-course : goal.returns-else-not-is_zero-clause-course
+returns-else-not-is_zero-clause-course c = λ budget w i j low left_is delta_is.
     let g = setting_of c.args.book.now.ranking in
     let s = state_in c.args.book.now c.args.state.now in
     let d = c.args.delta.terms.items in
@@ -25,8 +25,8 @@ returns-else-not-is_zero c = λ budget w i j low left_is delta_is.
     (ap (λ n. full_run g s Free (c.args.left - 1 - n) d) (sym c.term_count-terms.ensures) ∙ c.in-Ok.ensures.finished d c.into_norm.ensures.terms)
     (sym (empty_tested c.in-Ok.field-0.end.terms.items true c.if-not-is_zero.ensures)) (omega (arith, c.term_count-terms.ensures))
 
-pub returns-in_ok-halt-in-Err : goal.returns-in_ok-halt-in-Err
-returns-in_ok-halt-in-Err c = λ budget w i j low left_is delta_is.
+pub returns-in_ok-halt-in-Err-clause-course : goal.returns-in_ok-halt-in-Err-clause-course
+returns-in_ok-halt-in-Err-clause-course c = λ budget w i j low left_is delta_is.
     let g = setting_of c.args.book.now.ranking in
     let s = state_in c.args.book.now c.args.state.now in
     let d = c.args.delta.terms.items in

@@ -10,7 +10,7 @@ returns-in_ok-push-in-Zero-clause-onward c = λ weight ps h.
     let g = setting_of c.args.book.now.ranking in
     let s = state_in c.args.book.now c.args.state.now in
     let w = c.args.so_far.now.spent in
-    let k = subst (IsPairCourse g c.args.budget w s (c.args.first, c.args.second)) c.in-Zero.is (c.in_ok-run.ensures c.args.budget w c.requires.within refl) in
+    let k = subst (IsPairCourse g c.args.budget w s (c.args.first, c.args.second)) c.in-Zero.is (c.in_ok-run.ensures.course c.args.budget w c.requires.within refl) in
     same_lines g c.args.budget weight s _ c.push.new.self.items _ ps c.in_ok-push-in-Zero.ensures.items (zero_onward g c.args.budget weight w s c.args.so_far.now.lines.items c.args.first c.args.second ps h c.in-Zero.run' c.in-Zero.cost k)
 
 pub returns-in-Grown-clause-onward : goal.returns-in-Grown-clause-onward
@@ -18,5 +18,5 @@ returns-in-Grown-clause-onward c = λ weight ps h holds.
     let g = setting_of c.args.book.now.ranking in
     let s = state_in c.args.book.now c.args.state.now in
     let w = c.args.so_far.now.spent in
-    let k = subst (IsPairCourse g c.args.budget w s (c.args.first, c.args.second)) c.in-Grown.is (c.in_ok-run.ensures c.args.budget w c.requires.within refl) in
+    let k = subst (IsPairCourse g c.args.budget w s (c.args.first, c.args.second)) c.in-Grown.is (c.in_ok-run.ensures.course c.args.budget w c.requires.within refl) in
     (grown_onward g c.args.budget weight w s c.args.so_far.now.lines.items c.args.first c.args.second ps h c.in-Grown.run' k holds, tt)

@@ -31,18 +31,18 @@ delta_entry-requires-clause-pair c =
     let q = entry_at book c.args.state.now.equations c.equations-2.result.now c.args.second c.in-Some-member_at.q _ c.entry-2.result.now.terms.items c.equations-2.ensures.items (sym c.member_at-2.ensures ∙ c.in-Some-member_at.is) c.requires.pair.second_is c.entry-2.ensures.value in
     ap (λ (r : RankingValue). is_pair (symbols_under r) c.entry.result.now.terms.items c.entry-2.result.now.terms.items) c.ranking.ensures ∙ ap₂ (is_pair (symbols_under book.ranking)) p q ∙ c.requires.pair.is_one
 
-pub returns-in-Ok : goal.returns-in-Ok
-returns-in-Ok c =
+pub returns-in-Ok-clause-course : goal.returns-in-Ok-clause-course
+returns-in-Ok-clause-course c =
     let book = c.args.book.now in
     let g = setting_of book.ranking in
     let s = state_in book c.args.state.now in
     let p = entry_at book c.args.state.now.equations c.equations.result.now c.args.first c.in-Some.p _ c.entry.result.now.terms.items c.equations.ensures.items (sym c.member_at.ensures ∙ c.in-Some.is) c.requires.pair.first_is c.entry.ensures.value in
     let q = entry_at book c.args.state.now.equations c.equations-2.result.now c.args.second c.in-Some-member_at.q _ c.entry-2.result.now.terms.items c.equations-2.ensures.items (sym c.member_at-2.ensures ∙ c.in-Some-member_at.is) c.requires.pair.second_is c.entry-2.ensures.value in
     let d = sym (ap (λ (r : RankingValue). delta_answer (setting_of r) c.entry.result.now.terms.items c.entry-2.result.now.terms.items) c.ranking.ensures ∙ ap₂ (delta_answer g) p q) ∙ c.in-Ok.ensures.ok in
-    if_ok _ _ c.delta_course.result (λ x f budget w low left_is. f budget w c.args.first c.args.second low left_is (delta_of_pair g s c.args.first c.args.second c.requires.pair ∙ d)) c.delta_course.ensures
+    if_ok _ _ c.delta_course.result (λ x f budget w low left_is. f budget w c.args.first c.args.second low left_is (delta_of_pair g s c.args.first c.args.second c.requires.pair ∙ d)) c.delta_course.ensures.course
 
-pub returns-in-Err-Wide : goal.returns-in-Err-Wide
-returns-in-Err-Wide c = λ budget w low left_is.
+pub returns-in-Err-Wide-clause-course : goal.returns-in-Err-Wide-clause-course
+returns-in-Err-Wide-clause-course c = λ budget w low left_is.
     let book = c.args.book.now in
     let g = setting_of book.ranking in
     let s = state_in book c.args.state.now in
@@ -51,8 +51,8 @@ returns-in-Err-Wide c = λ budget w low left_is.
     let d = ap (λ (r : RankingValue). delta_answer (setting_of r) c.entry.result.now.terms.items c.entry-2.result.now.terms.items) c.ranking.ensures ∙ ap₂ (delta_answer g) p q in
     wide_delta g s c.args.first c.args.second c.requires.pair budget w c.new.result c.new.ensures (subst (λ stop. IsStop stop (delta_answer g c.requires.pair.first c.requires.pair.second)) c.in-Err-Wide.field-0-is (subst (IsStop c.in-Err-Wide.field-0) d c.in-Err-Wide.ensures.refused))
 
-pub returns-in-Err-Large : goal.returns-in-Err-Large
-returns-in-Err-Large c = λ budget w low left_is.
+pub returns-in-Err-Large-clause-course : goal.returns-in-Err-Large-clause-course
+returns-in-Err-Large-clause-course c = λ budget w low left_is.
     let book = c.args.book.now in
     let g = setting_of book.ranking in
     let s = state_in book c.args.state.now in
