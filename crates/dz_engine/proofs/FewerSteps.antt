@@ -1,6 +1,5 @@
 -- What admits no step without a role admits none as an inequation, since fewer inequations permit then.
-use Rattle.std.specs.Prelude.{is_some}
-use Rattle.std.proofs.Common.{◌≡◌, ◌∙◌, ℕ, zero, suc, Bool, true, false, ◌&&◌, ◌||◌, nat_le, cond, List, [], ◌∷◌, refl, sym, ap, Option, Some, None, Result, Ok, Err}
+use Rattle.std.proofs.Common.{◌≡◌, ℕ, zero, suc, Bool, true, false, ◌&&◌, ◌||◌, nat_le, cond, List, [], ◌∷◌, refl, ap, Option, Some, None, Result, Ok, Err}
 use Rattle.dz_algebra.specs.Norm.{norm}
 use Rattle.dz_algebra.specs.Parts.{degree, leader}
 use Rattle.dz_algebra.specs.Polynomial.{Polynomial}

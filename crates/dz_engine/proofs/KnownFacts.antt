@@ -1,5 +1,5 @@
 -- What is found out of the equations of a state, place by place, and what it tells.
-use Rattle.std.specs.Prelude.{All, OnErr, OnOk, is_some, not, slice_index_or}
+use Rattle.std.specs.Prelude.{OnErr, OnOk, is_some, not, slice_index_or}
 use Rattle.std.proofs.Common.{◌≡◌, ◌<◌, ◌∙◌, ◌&&◌, ◌||◌, ℕ, zero, suc, Bool, true, false, cond, List, [], ◌∷◌, length, map, refl, sym, ap, ap₂, subst, arith, Option, Some, None, Result, Ok, Err}
 use Rattle.dz_algebra.specs.Monomial.{Monomial}
 use Rattle.dz_algebra.specs.Parts.{is_ground, leader}

@@ -1,6 +1,6 @@
 -- What is found out of a state is right for the state on top of the stack, when that is taken up.
-use Rattle.std.specs.Prelude.{IsTrue, is_none}
-use Rattle.std.proofs.Common.{◌≡◌, ◌∙◌, ◌++◌, ℕ, Bool, true, false, List, [], ◌∷◌, length, take, refl, sym, ap, subst, arith, Option, Some, None}
+use Rattle.std.specs.Prelude.{is_none}
+use Rattle.std.proofs.Common.{◌≡◌, ◌∙◌, ◌++◌, ℕ, true, List, [], ◌∷◌, length, take, refl, sym, ap, subst, Option, Some, None}
 use Rattle.std.proofs.lemmas.List.Elements.{All-nil}
 use Rattle.dz_algebra.specs.Polynomial.{Polynomial}
 use Rattle.dz_poly.specs.Books.{BookValue}

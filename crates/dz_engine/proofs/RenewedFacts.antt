@@ -1,6 +1,6 @@
 -- What is found out of some equations becomes what is found out of others, place by place.
-use Rattle.std.specs.Prelude.{All, IsSome, drop, slice_index_or, slice_set}
-use Rattle.std.proofs.Common.{◌≡◌, ◌<◌, ◌≤◌, ◌+◌, ◌∙◌, ◌++◌, ℕ, zero, suc, List, [], ◌∷◌, length, take, refl, sym, ap, arith, add-one}
+use Rattle.std.specs.Prelude.{IsSome, drop, slice_index_or, slice_set}
+use Rattle.std.proofs.Common.{◌≡◌, ◌<◌, ◌≤◌, ◌+◌, ◌++◌, ℕ, zero, suc, List, [], ◌∷◌, length, take, refl, ap, arith, add-one}
 use Rattle.std.proofs.lemmas.List.Elements.{All-cons, All-head, All-tail}
 use Rattle.dz_poly.specs.Books.{BookValue}
 use Rattle.dz_diff.specs.State.{at_place}

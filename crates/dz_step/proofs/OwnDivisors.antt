@@ -1,6 +1,6 @@
 -- What is kept of the divisors without a role is what is kept for an equation that is left out, and back.
 use Rattle.std.specs.Prelude.{not, slice_index_or, slice_set}
-use Rattle.std.proofs.Common.{◌≡◌, ◌<◌, ◌+◌, length, subst, ℕ, zero, suc, true, false, List, [], ◌∷◌, refl, sym, ap, arith, inl, inr, Option, Some, None}
+use Rattle.std.proofs.Common.{◌≡◌, ◌<◌, ◌+◌, length, subst, ℕ, zero, suc, true, List, [], ◌∷◌, refl, sym, ap, arith, inl, inr, Option, Some, None}
 use Rattle.std.proofs.lemmas.Bool.{eq-eqb, ne_eqb}
 use Rattle.dz_algebra.specs.Polynomial.{Polynomial}
 use Rattle.dz_rank.specs.Rankings.{RankingValue}

@@ -1,5 +1,5 @@
 use Rattle.std.specs.Prelude.{is_some, not}
-use Rattle.std.proofs.Common.{◌≡◌, ◌<◌, ◌+◌, ◌∙◌, false, length, refl, slice_index_or, [], sym, ap, subst, Option, Some, None}
+use Rattle.std.proofs.Common.{◌≡◌, ◌+◌, ◌∙◌, false, refl, slice_index_or, [], sym, ap, Option, Some, None}
 use Rattle.dz_poly.specs.Books.{polynomial}
 use Rattle.dz_diff.specs.Operations.{setting_of}
 use Rattle.dz_diff.specs.States.{polynomials, state_in}

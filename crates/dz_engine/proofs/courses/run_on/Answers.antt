@@ -1,5 +1,5 @@
 use Rattle.std.specs.Prelude.{IsSome}
-use Rattle.std.proofs.Common.{◌≡◌, ◌≤◌, ◌<◌, ◌-◌, suc, length, slice_set, subst, arith, None}
+use Rattle.std.proofs.Common.{◌≡◌, ◌-◌, suc, slice_set, subst, arith, None}
 use Rattle.dz_diff.specs.State.{at_place}
 use Rattle.dz_diff.specs.States.{state_in}
 use Rattle.dz_step.specs.Divisors.{AreDivisors}

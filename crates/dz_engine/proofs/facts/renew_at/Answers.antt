@@ -1,4 +1,4 @@
-use Rattle.std.proofs.Common.{◌≡◌, ◌<◌, ◌∙◌, ◌++◌, ◌∷◌, [], length, take, ap, subst, sym, arith}
+use Rattle.std.proofs.Common.{◌<◌, ◌∙◌, ◌++◌, ◌∷◌, [], length, take, ap, subst, sym, arith}
 use Rattle.std.proofs.lemmas.Bool.{eqb-true}
 use Rattle.dz_engine.specs.declared.facts.Facts.{Facts}
 use Rattle.dz_engine.specs.Facts.{AreKnown, names_of}

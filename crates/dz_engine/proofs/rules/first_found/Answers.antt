@@ -2,7 +2,7 @@ use Rattle.std.proofs.Common.{◌∙◌, sym}
 use Rattle.dz_diff.specs.Operations.{setting_of}
 use Rattle.dz_diff.specs.States.{state_in}
 use Rattle.dz_engine.specs.Order.{next_entry}
-use Rattle.dz_engine.proofs.NextRules.{after_closed, after_divide, after_factor, after_reduce, after_split, after_weed, closed_found, divided, factored, reduced, split_is, weeded}
+use Rattle.dz_engine.proofs.NextRules.{after_closed, after_divide, after_factor, after_reduce, after_split, after_weed, divided, factored, reduced, split_is, weeded}
 use Rattle.dz_engine.proofs.rules.first_found.Goals as goal
 
 pub returns-in-Some-clause-found : goal.returns-in-Some-clause-found
