@@ -1,0 +1,9 @@
+pub mod Derivatives
+pub mod Chains
+pub mod Clashes
+pub mod Laws
+pub mod Fractions
+pub mod Jets
+pub mod Examples
+pub mod Stops
+pub mod Tables
