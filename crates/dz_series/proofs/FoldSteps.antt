@@ -52,7 +52,7 @@ pub made_whole : (f : Fraction) (c : ℤ) → IsFraction f → HasValue f c 1 �
 made_whole f c h v = same f (whole c) c c 1 1 (record { lowest = h.reduced; value = v; positive = omega arith }) (whole_is c) refl
 
 -- ---- the powers of a term
-drop_got : {A : Type 0} (m : List A) (j : ℕ) (p : A) → slice_get m j ≡ Some p → drop j m ≡ p ∷ drop (j + 1) m
+pub drop_got : {A : Type 0} (m : List A) (j : ℕ) (p : A) → slice_get m j ≡ Some p → drop j m ≡ p ∷ drop (j + 1) m
 drop_got [] j p e = cc
 drop_got (x ∷ m) zero p e = let f : x ≡ p = cc in ap (λ y. y ∷ m) f
 drop_got (x ∷ m) (suc j) p e = drop_got m j p e ∙ ap (λ k. p ∷ drop k (x ∷ m)) (let f : suc (j + 1) ≡ suc j + 1 = omega arith in f)
@@ -173,3 +173,7 @@ module _ (cmp : Symbol → Symbol → Ordering) (w : Symbol) (at : Symbol → Fr
 -- the same where the call reads the whole number from a machine word
 pub read_whole : (f : Fraction) (c : ℤ) → IsFraction f → unsigned_abs c ≤ greatest → HasValue f (to_z w128 (of_z w128 c)) 1 → f ≡ whole c
 read_whole f c h r v = made_whole f c h (subst (λ z. HasValue f z 1) (to_z-of_z w128 c (fits_signed_from_abs w128 c (omega (arith, r)))) v)
+
+-- a machine word that is zero was a zero
+pub read_zero : (c : ℤ) → unsigned_abs c ≤ greatest → of_z w128 c ≡ 0 → c ≡ pos 0
+read_zero c r e = sym (to_z-of_z w128 c (fits_signed_from_abs w128 c (omega (arith, r)))) ∙ ap (to_z w128) e

@@ -22,7 +22,7 @@ use Rattle.dz_series.specs.Jets.{multiplied, term_value, value_from, value_answe
 use Rattle.dz_series.proofs.FractionLaws.{Is, is_lowest, passes_lowest, itself, same, product_is, negative_is, whole_is, copies_is, fraction_laws}
 
 -- ---- answers
-given_is : {A E : Type 0} (o : Option A) (e : E) (x : A) → given o e ≡ Ok x → o ≡ Some x
+pub given_is : {A E : Type 0} (o : Option A) (e : E) (x : A) → given o e ≡ Ok x → o ≡ Some x
 given_is (Some y) e x h = ap Some (ok_same y x h)
 given_is None e x h = cc
 
@@ -112,7 +112,7 @@ positive_size (pos (suc k)) n = omega arith
 positive_size (negsuc k) n = omega arith
 
 -- the inverse of a fraction that is not zero
-inverse_is : (f : Fraction) → IsReduced f → f.numerator ≢ pos 0 → IsReduced (inverse_of f)
+pub inverse_is : (f : Fraction) → IsReduced f → f.numerator ≢ pos 0 → IsReduced (inverse_of f)
 inverse_is f h n = record {
   positive = positive_size f.numerator n;
   coprime = subst (λ k. IsGcd k (unsigned_abs f.numerator) 1) (sym (unsigned_abs_signed (is_negative f.numerator) f.denominator)) (IsGcd-swap (unsigned_abs f.numerator) f.denominator 1 h.coprime);

@@ -106,3 +106,7 @@ module _ (r : RankingValue) where
       by_test : (b : Bool) → IsTrue (is_reduced (value_in (symbols_under r) xs s)) → IsTrue (is_reduced (elim (cond b (Some p.1) (given_to (symbols_under r) xs s)) as (λ _. Fraction) [ None ↦ whole (pos 0) | Some v ↦ v ]))
       by_test true k = h.0
       by_test false k = k
+
+-- equal answers are equal values
+pub value_of_given : {o p : Option Fraction} → o ≡ p → (elim o as (λ _. Fraction) [ None ↦ whole (pos 0) | Some v ↦ v ]) ≡ (elim p as (λ _. Fraction) [ None ↦ whole (pos 0) | Some v ↦ v ])
+value_of_given e = ap (λ (o : Option Fraction). elim o as (λ _. Fraction) [ None ↦ whole (pos 0) | Some v ↦ v ]) e

@@ -43,7 +43,7 @@ in_flat_map f x y [] h k = absurd h
 in_flat_map f x y (z ∷ xs) (inl e) k = some_left (λ u. u ≡ y) (f z) (flat_map f xs) (subst (λ u. In y (f u)) (sym e) k)
 in_flat_map f x y (z ∷ xs) (inr h) k = some_right (λ u. u ≡ y) (f z) (flat_map f xs) (in_flat_map f x y xs h k)
 
-all_flat_map : {A B : Type 0} (f : A → List B) (P : B → Type 0) (xs : List A) → AllOf (λ x. AllOf P (f x)) xs → AllOf P (flat_map f xs)
+pub all_flat_map : {A B : Type 0} (f : A → List B) (P : B → Type 0) (xs : List A) → AllOf (λ x. AllOf P (f x)) xs → AllOf P (flat_map f xs)
 all_flat_map f P [] h = tt
 all_flat_map f P (x ∷ xs) h = all-append P (f x) (flat_map f xs) h.0 (all_flat_map f P xs h.1)
 
@@ -80,13 +80,13 @@ all_exponents (suc n) m =
     more k (ks ∷ xs) l h = ((ap suc h.0.0, omega (arith, h.0.1, l, sum_by-cons (λ x. x) k ks)), more k xs l h.1)
 
 -- ---- zeros behind
-abbrev Zeros : List ℕ → Type 0
+abbrev pub Zeros : List ℕ → Type 0
 Zeros ks = All (λ k. k ≡ 0) ks
 
-tail : (k : ℕ) (ks : List ℕ) → Zeros (k ∷ ks) → Zeros ks
+pub tail : (k : ℕ) (ks : List ℕ) → Zeros (k ∷ ks) → Zeros ks
 tail k ks p = λ i d h. p (suc i) d (omega arith)
 
-filled : (n l : ℕ) (ks : List ℕ) → length ks ≡ l → n ≤ l → Zeros (drop n ks) → take n ks ++ replicate (l - n) 0 ≡ ks
+pub filled : (n l : ℕ) (ks : List ℕ) → length ks ≡ l → n ≤ l → Zeros (drop n ks) → take n ks ++ replicate (l - n) 0 ≡ ks
 filled zero zero [] e h z = refl
 filled zero zero (k ∷ ks) e h z = absurd (omega arith)
 filled zero (suc l) [] e h z = absurd (omega arith)
@@ -136,7 +136,7 @@ module _ {cmp : Symbol → Symbol → Ordering} (order : IsOrder cmp) where
       by_order Greater (inl e) f = inl e
       by_order Greater (inr k) f = inr (f k)
 
-  in_rising : (x : Symbol) (ss : List Symbol) → In x ss → In x (rising cmp ss)
+  pub in_rising : (x : Symbol) (ss : List Symbol) → In x ss → In x (rising cmp ss)
   in_rising x [] h = absurd h
   in_rising x (s ∷ ss) (inl e) = subst (λ y. In y (put cmp s (rising cmp ss))) e (in_put_first s (rising cmp ss))
   in_rising x (s ∷ ss) (inr h) = in_put s x (rising cmp ss) (in_rising x ss h)
@@ -150,7 +150,7 @@ module _ {cmp : Symbol → Symbol → Ordering} (order : IsOrder cmp) where
       by_order Equal l = k
       by_order Greater l = (k.0, l)
 
-  all_rising : (P : Symbol → Type 0) (ss : List Symbol) → AllOf P ss → AllOf P (rising cmp ss)
+  pub all_rising : (P : Symbol → Type 0) (ss : List Symbol) → AllOf P ss → AllOf P (rising cmp ss)
   all_rising P [] h = tt
   all_rising P (s ∷ ss) h = all_put P s (rising cmp ss) h.0 (all_rising P ss h.1)
 
@@ -172,7 +172,7 @@ module _ {cmp : Symbol → Symbol → Ordering} (order : IsOrder cmp) where
       by_order Equal e k = h
       by_order Greater e k = (all_put (λ u. is_derivative t ≡ true → cmp t u ≡ Less) s ts (λ z. less_reversed order.total s t e) h.0, k)
 
-  ordered_rising : (ss : List Symbol) → AllOf (λ t. is_derivative t ≡ true) ss → IsOrdered (rising cmp ss)
+  pub ordered_rising : (ss : List Symbol) → AllOf (λ t. is_derivative t ≡ true) ss → IsOrdered (rising cmp ss)
   ordered_rising [] d = tt
   ordered_rising (s ∷ ss) d = ordered_put s (rising cmp ss) (all_rising (λ t. is_derivative t ≡ true) ss d.1) (ordered_rising ss d.1)
 
@@ -186,7 +186,7 @@ module _ (r : RankingValue) (few : r.signature.independents ≤ 4) (m : ℕ) whe
     pub belongs : BelongsTo r.signature s
     pub within : total_order s ≤ m
 
-  all_derivatives : AllOf (λ s. IsListed s × (is_derivative s ≡ true)) (derivatives_to r m)
+  pub all_derivatives : AllOf (λ s. IsListed s × (is_derivative s ≡ true)) (derivatives_to r m)
   unfolding derivatives_to ranking_cmp
   all_derivatives =
       all_rising (ranking_order r) (λ s. IsListed s × (is_derivative s ≡ true)) (flat_map (λ u. map (made u) (exponents_to r.signature.independents m)) (range_with_len 0 r.signature.dependents))
@@ -255,7 +255,7 @@ module _ (r : RankingValue) (few : r.signature.independents ≤ 4) (m : ℕ) whe
       (subst (λ j. In (Independent j) (independents_of r.signature)) (let e : 0 + i ≡ i = omega arith in e) (in_map (λ i. Independent i) (0 + i) (range_with_len 0 r.signature.independents) (in_range 0 r.signature.independents i b)))
   in_jet (Derivative u t) b h = some_right (λ v. v ≡ Derivative u t) (independents_of r.signature) (derivatives_to r m) (in_derivatives_to (Derivative u t) refl b h)
 
-  rises : IsOrdered (ranking_order r) (derivatives_to r m)
+  pub rises : IsOrdered (ranking_order r) (derivatives_to r m)
   unfolding derivatives_to ranking_cmp
   rises = ordered_rising (ranking_order r) (flat_map (λ u. map (made u) (exponents_to r.signature.independents m)) (range_with_len 0 r.signature.dependents))
       (all_flat_map (λ u. map (made u) (exponents_to r.signature.independents m)) (λ s. is_derivative s ≡ true) (range_with_len 0 r.signature.dependents)

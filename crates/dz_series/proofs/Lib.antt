@@ -27,3 +27,16 @@ pub mod FoldSteps
 pub mod Found
 pub mod TableLists
 pub mod FilteredLists
+pub mod SortedSymbols
+pub mod LastDerivations
+pub mod FirstLeading
+pub mod OrderFolds
+pub mod Listings
+pub mod Needed
+pub mod GivenTables
+pub mod PointSteps
+pub mod MultiplierSteps
+pub mod GivenAnswers
+pub mod SeparantValues
+pub mod JetWhole
+pub mod FixingSteps

@@ -26,7 +26,7 @@ keys_drop zero xs = refl
 keys_drop (suc n) [] = refl
 keys_drop (suc n) (x ∷ xs) = keys_drop n xs
 
-drop_front : {A : Type 0} (xs ys : List A) → drop (length xs) (xs ++ ys) ≡ ys
+pub drop_front : {A : Type 0} (xs ys : List A) → drop (length xs) (xs ++ ys) ≡ ys
 drop_front [] ys = refl
 drop_front (x ∷ xs) ys = drop_front xs ys
 
@@ -40,6 +40,9 @@ length_range k (suc n) = ap suc (length_range (k + 1) n)
 
 pub independents_length : (n : ℕ) → length (map (λ i. Independent i) (range_with_len 0 n)) ≡ n
 independents_length n = length-map (range_with_len 0 n) (λ i. Independent i) ∙ length_range 0 n
+
+pub front_short : (n : ℕ) (ds : List Symbol) → n ≤ length (map (λ i. Independent i) (range_with_len 0 n) ++ ds)
+front_short n ds = omega (arith, independents_length n, length_front (map (λ i. Independent i) (range_with_len 0 n)) ds)
 
 -- a slice from n on
 take_whole : {A : Type 0} (xs : List A) → take (length xs - 0) xs ≡ xs

@@ -7,3 +7,6 @@ pub mod Jets
 pub mod Examples
 pub mod Stops
 pub mod Tables
+pub mod Fixing
+pub mod Making
+pub mod Listing
