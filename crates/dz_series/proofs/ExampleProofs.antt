@@ -1,4 +1,5 @@
 -- The worked jets, by computation.
+use Rattle.std.specs.Fmt.{digits}
 use Rattle.std.proofs.Common.{refl}
 use Rattle.dz_algebra.specs.Derivation.{polynomial_derivative}
 use Rattle.dz_int.specs.Euclid.{gcd}
@@ -8,7 +9,9 @@ use Rattle.dz_rank.specs.Rankings.{ranking_cmp}
 use Rattle.dz_terms.specs.Ranked.{symbol_rate}
 use Rattle.dz_algebra.specs.Norm.{norm}
 use Rattle.dz_tree.specs.Chain.{chain_rule, evidence_weight}
-use Rattle.dz_series.specs.Examples.{JetExamples, PairExamples}
+use Rattle.dz_series.specs.Examples.{JetExamples, PairExamples, SeriesExamples}
+use Rattle.dz_form.specs.Texts.{symbol_text}
+use Rattle.dz_series.specs.Series.{series_answer}
 use Rattle.dz_series.specs.Jets.{value_answer, derivatives_to, jet_order, jet_answer}
 
 pub jet_examples : JetExamples
@@ -18,3 +21,7 @@ jet_examples = record { conic_jet = refl; off = refl; singular = refl; lacks = r
 pub pair_examples : PairExamples
 unfolding polynomial_derivative norm gcd polynomial_one support fits refusal operation ranking_cmp symbol_rate chain_rule evidence_weight value_answer derivatives_to jet_order jet_answer
 pair_examples = record { is_chain = refl; gradient_jet = refl; tied_jet = refl }
+
+pub series_examples : SeriesExamples
+unfolding digits gcd symbol_text series_answer
+series_examples = record { conic_series = refl; half_series = refl; plane_series = refl; zero_series = refl }

@@ -1,6 +1,7 @@
 -- The laws of jets.
+use Rattle.std.specs.Prelude.{IfOk, Result}
 use Rattle.std.specs.List.{filter}
-use Rattle.std.proofs.Common.{◌≡◌, ◌⊎◌, inl, inr, ◌≤◌, ◌∙◌, ℕ, List, [], ◌++◌, pos, Option, Some, None, Ok, refl, sym, ap, subst}
+use Rattle.std.proofs.Common.{◌≡◌, ◌⊎◌, inl, inr, ◌≤◌, ◌∙◌, ℕ, List, [], ◌++◌, pos, Option, Some, None, Ok, Err, arith, refl, sym, ap, subst}
 use Rattle.dz_int.specs.Fractions.{Fraction}
 use Rattle.dz_rank.specs.Rankings.{RankingValue, IsOrderly}
 use Rattle.dz_rank.specs.Symbols.{total_order}
@@ -11,7 +12,8 @@ use Rattle.dz_diff.proofs.Answers.{bind_ok}
 use Rattle.dz_tree.specs.Chain.{Evidence}
 use Rattle.dz_series.specs.Clashes.{IsChain, AgreesAt, IsDerivativeIn}
 use Rattle.dz_series.specs.Fractions.{whole, fraction_operations}
-use Rattle.dz_series.specs.Jets.{Values, given_to, value_in, jet_order, is_needed, test_given, test_equations, test_all_multipliers, test_inequations, jet_answer}
+use Rattle.dz_series.specs.declared.faults.JetFault.{JetFault}
+use Rattle.dz_series.specs.Jets.{JetValue, Values, given_to, value_in, jet_order, is_needed, test_given, test_equations, test_all_multipliers, test_inequations, jet_answer}
 use Rattle.dz_series.specs.Laws.{AreReduced, JetLaws}
 use Rattle.dz_series.proofs.JetLists.{keys, value_kept, value_behind, key_or_none, key_given}
 use Rattle.dz_series.proofs.JetRuns.{all_sound, nothing_done, end_agrees}
@@ -60,3 +62,10 @@ pub jet_laws : (r : RankingValue) (s : State) (evidence : List Evidence) → IsC
 jet_laws r s evidence chain orderly = record {
   agrees = λ known jet n reduced e w h. agrees_with_jet r s evidence chain orderly known reduced n jet e w h;
 }
+
+-- the jet that a call answers agrees with all equations
+pub jet_agrees : (r : RankingValue) (s : State) (evidence : List Evidence) → IsChain r s evidence → IsOrderly r → (known : Values) → AreReduced known → (n : ℕ) (x : Result JetValue JetFault)
+    → IfOk x (λ jet. jet_answer r s known n ≡ Ok jet.values) → IfOk x (λ jet. jet.order ≡ jet_order (symbols_under r) s n)
+    → IfOk x (λ jet. (w : Symbol) → total_order w ≤ jet.order → AgreesAt r s fraction_operations (value_in (symbols_under r) jet.values) w)
+jet_agrees r s evidence chain orderly known reduced n (Err e) h o = tt
+jet_agrees r s evidence chain orderly known reduced n (Ok jet) h o = λ w l. agrees_with_jet r s evidence chain orderly known reduced n jet.values h w (omega (arith, l, o))

@@ -1,5 +1,5 @@
 -- Worked jets, computed by hand or by a plain program.
-use Rattle.std.specs.Prelude.{◌≡◌, ℕ, true, [], ◌∷◌, pos, neg_ℤ, Ok, Err}
+use Rattle.std.specs.Prelude.{◌≡◌, ℕ, true, [], ◌∷◌, codes, pos, neg_ℤ, Ok, Err}
 use Rattle.dz_algebra.specs.Polynomial.{symbol_polynomial}
 use Rattle.dz_int.specs.Fractions.{Fraction}
 use Rattle.dz_rank.specs.declared.rankings.Kind.TheVariants.{GrlexA, DegrevB}
@@ -12,7 +12,9 @@ use Rattle.dz_tree.specs.Chain.{chain_weight}
 use Rattle.dz_series.specs.Fractions.{whole}
 use Rattle.dz_series.specs.declared.faults.JetFault.TheVariants as faults
 use Rattle.dz_series.specs.declared.faults.Part.TheVariants as parts
+use Rattle.dz_syntax.specs.Names.{Declared}
 use Rattle.dz_series.specs.Jets.{Values, jet_answer}
+use Rattle.dz_series.specs.Series.{series_answer}
 
 -- the dependent u over x
 abbrev pub ordinary : RankingValue
@@ -95,3 +97,25 @@ pub record PairExamples : Type 0 where
   -- fractions
   pub tied_jet : jet_answer reversed tied ((x, over 0 1) ∷ (y, over 1 3) ∷ (at 0 0, over 1 4) ∷ (at 0 1, over 1 3) ∷ (at 1 0, over 1 1) ∷ []) 2
       ≡ Ok ((x, over 0 1) ∷ (y, over 1 3) ∷ (at 0 0, over 1 4) ∷ (at 0 1, over 1 3) ∷ (at 1 0, over 1 1) ∷ (at 0 2, over 11 9) ∷ (at 1 1, over 2 3) ∷ (at 2 0, over 2 1) ∷ [])
+
+-- ---- texts
+-- the names x and u
+abbrev pub ordinary_names : Declared
+ordinary_names = record { all = codes "x" ∷ codes "u" ∷ []; independents = 1 }
+
+-- the names x, y and u
+abbrev pub plane_names : Declared
+plane_names = record { all = codes "x" ∷ codes "y" ∷ codes "u" ∷ []; independents = 2 }
+
+pub record SeriesExamples : Type 0 where
+  -- at x = 0: u = 1, u[x] = 2, u[x,x] = 2, u[x,x,x] = 0
+  pub conic_series : series_answer ordinary_names ordinary.signature ((x, whole (pos 0)) ∷ (u 0, whole (pos 1)) ∷ (u 1, whole (pos 2)) ∷ (u 2, whole (pos 2)) ∷ (u 3, whole (pos 0)) ∷ [])
+      ≡ Ok (codes "value u = 1\nvalue u[x] = 2\nvalue u[x,x] = 2\nvalue u[x,x,x] = 0\nseries u = 1 + 2*x + x^2\n")
+  -- at x = 1/2: negative coefficients, and factorials that stay
+  pub half_series : series_answer ordinary_names ordinary.signature ((x, over 1 2) ∷ (u 0, whole (neg_ℤ (pos 1))) ∷ (u 1, over 1 3) ∷ (u 2, whole (neg_ℤ (pos 1))) ∷ (u 3, whole (pos 6)) ∷ [])
+      ≡ Ok (codes "value u = -1\nvalue u[x] = 1/3\nvalue u[x,x] = -1\nvalue u[x,x,x] = 6\nseries u = -1 + 1/3*(x - 1/2) - 1/2*(x - 1/2)^2 + (x - 1/2)^3\n")
+  -- at x = -1 and y = 0: two displacements, in declared order
+  pub plane_series : series_answer plane_names plane.signature ((x, whole (neg_ℤ (pos 1))) ∷ (y, whole (pos 0)) ∷ (at 0 0, whole (pos 0)) ∷ (at 1 1, whole (pos 4)) ∷ [])
+      ≡ Ok (codes "value u = 0\nvalue u[x,y] = 4\nseries u = 4*(x + 1)*y\n")
+  -- no value but zeros
+  pub zero_series : series_answer ordinary_names ordinary.signature ((x, whole (pos 0)) ∷ (u 0, whole (pos 0)) ∷ []) ≡ Ok (codes "value u = 0\nseries u = 0\n")

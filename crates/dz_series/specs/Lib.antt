@@ -4,6 +4,7 @@ pub mod Clashes
 pub mod Laws
 pub mod Fractions
 pub mod Jets
+pub mod Series
 pub mod Examples
 pub mod Stops
 pub mod Tables

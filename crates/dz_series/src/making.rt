@@ -1,13 +1,18 @@
 //! The making of jets.
 
-ghost use Rattle.std.specs.Prelude.{◌≡◌, All, Err, IfErr, IfOk, Ok};
+ghost use Rattle.std.specs.Prelude.{◌≡◌, ◌≤◌, All, Err, IfErr, IfOk, List, Ok};
 ghost use Rattle.dz_poly.specs.Books.{IsKept};
 ghost use Rattle.dz_rank.specs.Rankings.{IsOrderly};
-ghost use Rattle.dz_rank.specs.Symbols.{BelongsTo};
+ghost use Rattle.dz_rank.specs.Symbols.{BelongsTo, total_order};
+ghost use Rattle.dz_rank.specs.declared.symbols.Symbol.{Symbol as SymbolValue};
 ghost use Rattle.dz_terms.specs.Ranked.{symbols_under};
 ghost use Rattle.dz_diff.specs.States.{StandsIn, state_in};
 ghost use Rattle.dz_series.specs.declared.faults.JetFault.TheVariants.{NotOrderly};
-ghost use Rattle.dz_series.specs.Jets.{AreDistinct, jet_answer, jet_order};
+ghost use Rattle.dz_tree.specs.Chain.{Evidence};
+ghost use Rattle.dz_series.specs.Clashes.{AgreesAt, IsChain};
+ghost use Rattle.dz_series.specs.Fractions.{fraction_operations};
+ghost use Rattle.dz_series.specs.Jets.{AreDistinct, jet_answer, jet_order, value_in};
+ghost use Rattle.dz_series.specs.Laws.{AreReduced};
 ghost use Rattle.dz_series.specs.Stops.{IsFault};
 
 use crate::faults::JetFault;
@@ -21,6 +26,15 @@ use dz_int::Frac;
 use dz_poly::Book;
 use dz_rank::Symbol;
 use std::alloc::Global;
+
+/// What is true of all values, for contracts: each is in lowest terms.
+fn read(values: &[(Symbol, Frac)])
+    ensures { AreReduced values.now }
+{
+    for i in 0..values.len() {
+        let _ = values[i].1.numerator();
+    }
+}
 
 /// The jet, with what the work leaves in the book.
 fn jet_in_book(
@@ -83,12 +97,20 @@ pub fn jet(
         book.old.ranking (state_in book.old chain.now) values.now order)) }
     ensures not_orderly { (IsOrderly book.old.ranking → ⊥) → result ≡ Err NotOrderly }
 
+    // Of a chain with evidence all derivatives of all equations have value zero at the jet.
+    ensures agrees { (evidence : List Evidence)
+        → IsChain book.old.ranking (state_in book.old chain.now) evidence
+        → IfOk result (λ jet. (w : SymbolValue) → total_order w ≤ jet.order
+        → AgreesAt book.old.ranking (state_in book.old chain.now) fraction_operations
+        (value_in (symbols_under book.old.ranking) jet.values) w) }
+
     // The book is as before.
     ensures book { book.new ≡ book.old }
 {
     if !book.ranking().is_orderly() {
         return Err(JetFault::NotOrderly);
     }
+    read(values);
     let mark = book.mark();
     let result = jet_in_book(alloc, book, chain, values, order);
     book.restore(mark);
