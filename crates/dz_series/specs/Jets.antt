@@ -223,7 +223,8 @@ with_values g s at jet (w ∷ ws) = do
   more ← with_value g at jet w (leading_to g.symbols w 1 s.equations)
   with_values g s at more ws
 
--- the jet up to the order n, under an orderly ranking: the independents in declared order, then the derivatives in increasing order
+-- the jet up to the order n, under an orderly ranking: first the independents in declared order, then the derivatives in
+-- increasing order
 unfoldable pub jet_answer : RankingValue → State → Values → ℕ → Result Values JetFault
 jet_answer r s known n =
     let g = setting_of r in

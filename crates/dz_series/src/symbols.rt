@@ -92,7 +92,8 @@ fn add_derivatives(
     requires few { independents ≤ 4 }
     requires zeros { All (λ k. k ≡ 0) (drop i operator.counts) }
     ensures { OnOk result (into.new.items ≡ into.old.items
-        ++ derivatives_from independents dependent (take i operator.counts) (independents - i) most) }
+        ++ derivatives_from independents dependent (take i operator.counts)
+        (independents - i) most) }
 {
     if i == independents {
         into.push(Symbol::Derivative {
