@@ -1,7 +1,7 @@
 //! The cases of an input.
 
 use crate::asking::{Verb, ask};
-use dz_case::{CaseStop, number, split_at_first};
+use dz_case::{CaseStop, cases_of, number, split_at_first};
 use std::alloc::{AllocError, Global};
 
 /// The verb of a word.
@@ -50,17 +50,8 @@ fn tell(alloc: Global, case: &[&[u8]], into: &mut Vec<u8>) -> Result<(), AllocEr
 
 /// Appends the lines of all cases of an input.
 pub(crate) fn tell_all(alloc: Global, text: &[u8], into: &mut Vec<u8>) -> Result<(), AllocError> {
-    let mut case: Vec<&[u8]> = Vec::new(alloc);
-    for line in text.split(|byte| *byte == b'\n') {
-        if line.starts_with(b"#") {
-            continue;
-        }
-        if !line.is_empty() {
-            case.push(line)?;
-            continue;
-        }
-        tell(alloc, &case, into)?;
-        case.clear();
+    for case in cases_of(alloc, text)?.iter() {
+        tell(alloc, case, into)?;
     }
     Ok(())
 }

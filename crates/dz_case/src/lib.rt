@@ -1,5 +1,5 @@
-//! What programs of cases share: the words of a line, systems with their books, and the names of
-//! rules and limits.
+//! What programs of cases share: the lines of cases and their words, systems with their books, and
+//! the names of rules and limits.
 #![tactic(auto)]
 
 mod names;
@@ -8,9 +8,9 @@ mod words;
 
 use dz_poly::PolyStop;
 pub use names::{limit_name, rule_name};
-use std::alloc::AllocError;
+use std::alloc::{AllocError, AllocFailed};
 pub use systems::{book_for, read_case, system_of, values};
-pub use words::{number, place, split_at_first};
+pub use words::{cases_of, number, place, split_at_first};
 
 /// Why a case is not judged.
 #[derive(Clone, Copy, Debug, PartialEq, Eq)]
@@ -22,6 +22,12 @@ pub enum CaseStop {
 
 impl From<AllocError> for CaseStop {
     fn from(_error: AllocError) -> CaseStop {
+        CaseStop::Memory
+    }
+}
+
+impl<T: Drop> From<AllocFailed<T>> for CaseStop {
+    fn from(_error: AllocFailed<T>) -> CaseStop {
         CaseStop::Memory
     }
 }

@@ -1,4 +1,25 @@
-//! The words of a line.
+//! The cases of an input, and the words of a line.
+
+use std::alloc::{AllocError, Global};
+use std::mem;
+
+/// The cases of an input, each with its lines: an empty line ends a case, and a line that begins
+/// with `#` is none of it.
+pub fn cases_of<'a>(alloc: Global, text: &'a [u8]) -> Result<Vec<Vec<&'a [u8]>>, AllocError> {
+    let mut cases = Vec::new(alloc);
+    let mut case: Vec<&[u8]> = Vec::new(alloc);
+    for line in text.split(|byte| *byte == b'\n') {
+        if line.starts_with(b"#") {
+            continue;
+        }
+        if line.is_empty() {
+            cases.push(mem::replace(&mut case, Vec::new(alloc)))?;
+        } else {
+            case.push(line)?;
+        }
+    }
+    Ok(cases)
+}
 
 /// The text before the first byte of a kind, and the text behind it; all and nothing where there is
 /// no such byte.

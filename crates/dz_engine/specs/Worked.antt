@@ -1,5 +1,5 @@
 -- Worked trees: each line is the one that the order of work names (this project).
-use Rattle.std.specs.Prelude.{◌≡◌, ⊤, ℕ, zero, suc, ◌+◌, List, [], ◌∷◌, ◌++◌, Ok, Err, MatchResult}
+use Rattle.std.specs.Prelude.{◌≡◌, ⊤, ℕ, zero, suc, ◌+◌, ◌*◌, List, [], ◌∷◌, ◌++◌, Ok, Err, MatchResult}
 use Rattle.dz_diff.specs.Operations.{Setting}
 use Rattle.dz_diff.specs.State.{State}
 use Rattle.dz_tree.specs.Root.{System, root_of}
@@ -35,3 +35,7 @@ worked_from g budget (suc n) w (s ∷ pending) =
 -- the lines of the worked tree of a system and a budget, computed in at most so many rounds
 abbrev pub worked_lines : Setting → ℕ → ℕ → System → List Line
 worked_lines g budget rounds system = lines_of (worked_from g budget rounds 0 (root_of g.symbols system ∷ []))
+
+-- the worked tree of a system and a budget
+abbrev pub worked_tree : Setting → ℕ → System → Tree
+worked_tree g budget system = record { budget = budget; lines = worked_lines g budget (2 * budget + 1) system }

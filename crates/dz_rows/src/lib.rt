@@ -1,4 +1,4 @@
-//! The program's worked rows: its answers over sources and sinks in memory.
+//! Worked rows of the libraries: the grammar of systems, canonical texts, laws, steps, full runs and critical pairs.
 #![tactic(auto)]
 
 #[cfg(test)]
@@ -8,20 +8,14 @@ mod grammar;
 #[cfg(test)]
 mod laws;
 #[cfg(test)]
-mod outside;
-#[cfg(test)]
 mod pairs;
 #[cfg(test)]
 mod parts;
 #[cfg(test)]
 mod reductions;
 #[cfg(test)]
-mod run;
-#[cfg(test)]
 mod runs;
 #[cfg(test)]
 mod states;
 #[cfg(test)]
 mod steps;
-#[cfg(test)]
-mod systems;

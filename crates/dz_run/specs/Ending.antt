@@ -1,15 +1,21 @@
 -- How a run ends: its status, and its message.
 use Rattle.std.specs.Prelude.{ℕ, List, [], ◌++◌, codes, ⊤}
 use Rattle.std.specs.Fmt.{decimal}
+use Rattle.dz_cert.specs.declared.reading.CertFault.{CertFault}
+use Rattle.dz_cert.specs.declared.reading.CertFault.TheVariants as faults
 use Rattle.dz_syntax.specs.Faults.{text_of}
 use Rattle.dz_run.specs.declared.ending.Ending.{Ending}
-use Rattle.dz_run.specs.declared.ending.Ending.TheVariants.{Done, Syntax, Wide, Large, ReadFault, WriteFault, WriteStuck, NoMemory, TooLong, NotBuilt}
+use Rattle.dz_run.specs.declared.ending.Ending.TheVariants.{Done, Rejected, NotWritten, Syntax, Document, Wide, Spent, Large, ReadFault, WriteFault, WriteStuck, NoMemory, TooLong, NotBuilt}
 
 -- the status with which the program ends
 abbrev pub status_of : Ending → ℕ
 status_of Done = 0
+status_of Rejected = 1
+status_of NotWritten = 2
 status_of (Syntax fault) = 3
+status_of (Document fault) = 3
 status_of Wide = 4
+status_of Spent = 5
 status_of Large = 6
 status_of ReadFault = 7
 status_of WriteFault = 8
@@ -18,11 +24,22 @@ status_of NoMemory = 9
 status_of TooLong = 11
 status_of NotBuilt = 12
 
+-- the line for the first fault of a document
+abbrev pub document_message : CertFault → List ℕ
+document_message faults.Memory = codes "blad: no memory\n"
+document_message (faults.BadLine n) = codes "blad: document: line " ++ decimal n ++ codes "\n"
+document_message faults.EndsEarly = codes "blad: document: ends early\n"
+document_message faults.BytesAfter = codes "blad: document: bytes after the end\n"
+
 -- the line on the error output, or nothing
 abbrev pub message_of : Ending → List ℕ
 message_of Done = []
+message_of Rejected = []
+message_of NotWritten = codes "blad: the words are no written form\n"
 message_of (Syntax fault) = codes "blad: syntax: byte " ++ decimal fault.place ++ codes ": " ++ text_of fault.kind ++ codes "\n"
+message_of (Document fault) = document_message fault
 message_of Wide = codes "blad: wide\n"
+message_of Spent = codes "blad: budget spent\n"
 message_of Large = codes "blad: large\n"
 message_of ReadFault = codes "blad: read fault\n"
 message_of WriteFault = codes "blad: write fault\n"
@@ -34,13 +51,21 @@ message_of NotBuilt = codes "blad: not built yet\n"
 -- an ending at which nothing was to be written on the output
 abbrev pub IsSilent : Ending → Type 0
 IsSilent Done = ⊥
+IsSilent Rejected = ⊥
 IsSilent Wide = ⊥
+IsSilent Spent = ⊥
 IsSilent Large = ⊥
 IsSilent WriteFault = ⊥
 IsSilent WriteStuck = ⊥
 IsSilent ending = ⊤
 
--- the input was no system text
-abbrev pub IsSyntax : Ending → Type 0
-IsSyntax (Syntax fault) = ⊤
-IsSyntax ending = ⊥
+-- its message tells a fault
+abbrev pub HasFault : Ending → Type 0
+HasFault (Syntax fault) = ⊤
+HasFault (Document fault) = ⊤
+HasFault ending = ⊥
+
+-- its message tells a line
+abbrev pub IsBadLine : CertFault → Type 0
+IsBadLine (faults.BadLine n) = ⊤
+IsBadLine fault = ⊥

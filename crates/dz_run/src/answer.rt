@@ -1,139 +1,69 @@
 // What the program answers to its words and its input.
-ghost use Rattle.std.specs.Prelude.{◌≡◌, IfOk, OnOk, Ok, map, string_bytes};
+ghost use Rattle.std.specs.Prelude.{◌≡◌, ◌≤◌, IfOk};
 ghost use Rattle.dz_syntax.specs.Names.{signature_of};
 ghost use Rattle.dz_syntax.specs.Systems.{HasExpressions, tree_of};
-ghost use Rattle.dz_run.specs.Answer.{answer_of, answer_to, built, built_answer, is_decompose, refused_ending, silent, system_told};
-ghost use Rattle.dz_run.specs.Root.{TreeLives, tree_in};
-ghost use Rattle.dz_run.specs.System.{ranking_of, system_answer};
-ghost use Rattle.dz_tree.specs.Systems.{IsSystemIn, system_in};
+ghost use Rattle.dz_run.specs.Answer.{answer_of, answer_to, form_of, is_built, verb_told};
+ghost use Rattle.dz_run.specs.System.{ranking_of};
 
-use crate::document::{chain_document, closed_document};
+use crate::checking::checked;
+use crate::decomposing::decomposed;
 use crate::ending::Ending;
-use crate::root::{Tree, tree_of_root};
-use crate::system::{Refused, Stop, refused_line, system_of};
+use crate::told::Told;
 use dz_poly::Book;
 use dz_rank::{RankFault, Ranking};
-use dz_syntax::{Form, Names, SyntaxKind, SystemTree, read_system};
-use dz_tree::{System, root};
+use dz_syntax::{Form, SyntaxKind, SystemTree, read_system};
+use dz_words::{Request, Verb};
 use std::alloc::{AllocError, Global};
 
-/// The most weight that a tree may have where the words name no budget.
-const DEFAULT_BUDGET: u32 = 1_000_000;
-
-/// What is to be printed, and how the run ends where the output takes all of it.
-#[derive(Drop)]
-pub(crate) struct Told {
-    pub output: Vec<u8>,
-    pub ending: Ending,
-}
-
-impl Told {
-    ghost use Rattle.std.specs.Prelude.{◌≡◌};
-    ghost use Rattle.dz_run.specs.Answer.{answer_of, silent};
-
-    /// Nothing is printed.
-    fn silent(alloc: Global, ending: Ending) -> Told
-        ensures { answer_of result ≡ silent ending }
-    {
-        Told {
-            output: Vec::new(alloc),
-            ending,
-        }
-    }
-}
-
-/// Whether the words are the one word `decompose`.
-pub(crate) fn is_decompose(words: &[String]) -> bool
-    ensures { result ≡ is_decompose (map string_bytes words.now) }
+/// Whether a verb is built.
+pub(crate) fn is_built(verb: Verb) -> bool
+    ensures { result ≡ is_built verb }
 {
-    match words {
-        [word] => word.as_str() == "decompose",
-        _ => false,
-    }
+    matches!(verb, Verb::Decompose | Verb::Check)
 }
 
-/// How the run ends for what is refused.
-fn refused_ending(refused: Refused) -> Ending
-    ensures { result ≡ refused_ending refused }
+/// The form of a verb's input.
+fn form_of(verb: Verb) -> Form
+    ensures { result ≡ form_of verb }
 {
-    match refused {
-        Refused::Wide(..) => Ending::Wide,
-        Refused::Large(..) | Refused::TooMany(_) => Ending::Large,
+    match verb {
+        Verb::Decompose | Verb::Sample => Form::Plain,
+        Verb::Check => Form::Document,
+        Verb::Reduce | Verb::Prepare => Form::Questions,
+        Verb::Series => Form::Values,
     }
 }
 
-/// The tree of one line for a system, which is built with at most one independent.
-#[tactic(auto, unfolding(crate::specs::Answer::built))]
-fn built(
+/// The answer of a verb, with a budget, for a text that was read of these bytes.
+fn verb_told(
     alloc: Global,
+    verb: Verb,
+    budget: u32,
+    bytes: &[u8],
     book: &mut Book,
-    tree: &SystemTree,
-    system: &System,
-) -> Result<Option<Tree>, AllocError>
-    requires ranking { book.old.ranking ≡ ranking_of (tree_of tree.now) }
-    requires stands { IsSystemIn book.old system.now }
-    ensures lives { IfOk result (λ o. TreeLives book.new o) }
-    ensures value { IfOk result (λ o. tree_in book.new o ≡ built (tree_of tree.now) (system_in book.old system.now)) }
-    ensures ranking { OnOk result (book.new.ranking ≡ book.old.ranking) }
-{
-    if tree.signature.independents > 1 {
-        return Ok(None);
-    }
-    let state = root(alloc, book, system)?;
-    let tree = tree_of_root(book, state)?;
-    Ok(tree)
-}
-
-/// The answer for the tree of a root.
-fn built_answer(
-    alloc: Global,
-    names: &Names,
-    book: &Book,
-    tree: Option<Tree>,
+    text: &SystemTree,
 ) -> Result<Told, AllocError>
-    requires signature { signature_of names.now ≡ book.now.ranking.signature }
-    requires lives { TreeLives book.now tree }
-    ensures { IfOk result (λ told. answer_of told ≡ built_answer names.now (tree_in book.now tree)) }
+    requires ranking { book.old.ranking ≡ ranking_of (tree_of text.now) }
+    requires expressions { HasExpressions (tree_of text.now) }
+    requires signature { text.now.signature ≡ signature_of text.now.names }
+    requires most { budget ≤ 20000000 }
+    ensures { IfOk result (λ told. answer_of told
+        ≡ verb_told verb budget bytes.now (tree_of text.now)) }
 {
-    let output = match tree {
-        None => return Ok(Told::silent(alloc, Ending::NotBuilt)),
-        Some(Tree::Closed) => closed_document(alloc, DEFAULT_BUDGET)?,
-        Some(Tree::Chain(state)) => {
-            chain_document(alloc, DEFAULT_BUDGET, names, book, state.equations())?
-        }
-    };
-    Ok(Told {
-        output,
-        ending: Ending::Done,
-    })
+    match verb {
+        Verb::Decompose => decomposed(alloc, book, text, budget),
+        Verb::Check => checked(alloc, book, text, bytes),
+        _ => Ok(Told::silent(alloc, Ending::NotBuilt)),
+    }
 }
 
-/// The answer for a text that was read.
-fn tree_told(alloc: Global, book: &mut Book, tree: &SystemTree) -> Result<Told, AllocError>
-    requires ranking { book.old.ranking ≡ ranking_of (tree_of tree.now) }
-    requires expressions { HasExpressions (tree_of tree.now) }
-    requires signature { tree.now.signature ≡ signature_of tree.now.names }
-    ensures { IfOk result (λ told. answer_of told ≡ system_told (tree_of tree.now) (system_answer (tree_of tree.now))) }
-{
-    let system = match system_of(alloc, book, tree) {
-        Ok(system) => system,
-        Err(Stop::Memory) => return Err(AllocError),
-        Err(Stop::Refused(refused)) => {
-            let output = refused_line(alloc, refused)?;
-            let ending = refused_ending(refused);
-            return Ok(Told { output, ending });
-        }
-    };
-    let root = built(alloc, book, tree, &system)?;
-    built_answer(alloc, &tree.names, book, root)
-}
-
-/// The answer to the bytes of an input.
+/// The answer to words that ask for this, and to the bytes of an input.
 #[tactic(auto, unfolding(crate::specs::Answer::answer_to))]
-pub(crate) fn answer(alloc: Global, bytes: &[u8]) -> Result<Told, AllocError>
-    ensures { IfOk result (λ told. answer_of told ≡ answer_to bytes.now) }
+pub(crate) fn answer(alloc: Global, request: Request, bytes: &[u8]) -> Result<Told, AllocError>
+    requires { request.budget ≤ 20000000 }
+    ensures { IfOk result (λ told. answer_of told ≡ answer_to request bytes.now) }
 {
-    let tree = match read_system(alloc, bytes, Form::Plain) {
+    let tree = match read_system(alloc, bytes, form_of(request.verb)) {
         Ok(tree) => tree,
         Err(fault) => match fault.kind {
             SyntaxKind::Memory => return Err(AllocError),
@@ -148,5 +78,5 @@ pub(crate) fn answer(alloc: Global, bytes: &[u8]) -> Result<Told, AllocError>
         Err(RankFault::Missing(_)) => unreachable!(),
     };
     let mut book = Book::new(alloc, ranking);
-    tree_told(alloc, &mut book, &tree)
+    verb_told(alloc, request.verb, request.budget, bytes, &mut book, &tree)
 }

@@ -1,6 +1,7 @@
 // How a run ends.
 ghost use Rattle.std.specs.Prelude.{◌≡◌};
 
+use dz_cert::CertFault;
 use dz_syntax::SyntaxFault;
 
 /// How a run ends.
@@ -8,12 +9,21 @@ use dz_syntax::SyntaxFault;
 pub enum Ending {
     /// The whole answer stands on the output.
     Done,
-    /// The input is no system text, by this first fault.
+    /// The document is rejected. The output has the verdict.
+    Rejected,
+    /// The words have no written form.
+    NotWritten,
+    /// The input is no text of its form, by this first fault.
     Syntax(SyntaxFault),
-    /// An item does not expand: its first refused operation is wide. The output names the item.
+    /// What follows the system is no document, by this first fault.
+    Document(CertFault),
+    /// An item does not expand, and the output names it: its first refused operation is wide; or
+    /// the first open end of the tree on the output is wide.
     Wide,
+    /// The first open end of the tree on the output has spent the budget.
+    Spent,
     /// An item does not expand: its first refused operation is too large; or the system has too
-    /// many members or terms. The output names the item and the limit.
+    /// many members or terms; or the first open end of the tree on the output is large.
     Large,
     /// The input failed.
     ReadFault,
@@ -25,7 +35,7 @@ pub enum Ending {
     NoMemory,
     /// The input has more bytes than are read.
     TooLong,
-    /// The words or the input ask for what is not built yet.
+    /// The words ask for what is not built yet.
     NotBuilt,
 }
 
@@ -39,8 +49,11 @@ impl Ending {
     {
         match self {
             Ending::Done => 0,
-            Ending::Syntax(_) => 3,
+            Ending::Rejected => 1,
+            Ending::NotWritten => 2,
+            Ending::Syntax(_) | Ending::Document(_) => 3,
             Ending::Wide => 4,
+            Ending::Spent => 5,
             Ending::Large => 6,
             Ending::ReadFault => 7,
             Ending::WriteFault | Ending::WriteStuck => 8,

@@ -2,12 +2,13 @@
 #![tactic(auto)]
 
 mod answer;
-mod document;
+mod checking;
+mod decomposing;
 mod ending;
 mod message;
-mod root;
 mod run;
 mod system;
+mod told;
 
 pub use ending::Ending;
 pub use run::{blad_run, tell};

@@ -1,21 +1,27 @@
 // The top call.
-ghost use Rattle.std.specs.Prelude.{◌≡◌, ◌≢◌, ◌⊎◌, map, string_bytes, true, false, IfOk, IfErr, ℕ};
-ghost use Rattle.dz_domain.specs.Point.{FitsSignature};
-ghost use Rattle.dz_run.specs.Answer.{answer_of, is_decompose};
+ghost use Rattle.std.specs.Prelude.{◌≡◌, ◌⊎◌, map, string_bytes, IfOk, IfErr};
+ghost use Rattle.dz_words.specs.Words.{IsWritten};
+ghost use Rattle.dz_words.specs.declared.verbs.Verb.TheVariants.{Decompose};
+ghost use Rattle.dz_words.specs.declared.words.Request.{Request};
+ghost use Rattle.dz_run.specs.Answer.{answer_of};
 ghost use Rattle.dz_run.specs.Ending.{IsSilent, message_of, status_of};
-ghost use Rattle.dz_run.specs.Run.{Ends, IsAnswered, IsSolvedBy, IsTold, Input, Output, WritesAnswer};
+ghost use Rattle.dz_run.specs.Headline.{IsDecomposed};
+ghost use Rattle.dz_run.specs.Run.{Ends, IsAnswered, IsAsking, IsTold, Output, WritesAnswer};
 
-use crate::answer::{Told, answer, is_decompose};
+use crate::answer::{answer, is_built};
 use crate::ending::Ending;
 use crate::message::write_message;
+use crate::told::Told;
 use dz_domain::{Domain, Point};
 use dz_outside::{ReadStop, Sink, Source, WriteStop, read_all, write_all};
+use dz_words::{WordsFault, read_words};
 use std::alloc::Global;
 
 /// The most bytes of an input.
 const MOST_BYTES: usize = 1_048_576;
 
 /// Reads the input, and makes the answer to it.
+#[tactic(auto, using(dz_words::proofs::Written::written_has_shape))]
 fn input_answer<S: Source>(alloc: Global, words: &[String], input: &mut S) -> Result<Told, Ending>
     ensures answered { IfOk result (λ told. IsAnswered (map string_bytes words.now)
         (record { rest = S.rest input.old; faults = S.faults input.old })
@@ -24,9 +30,14 @@ fn input_answer<S: Source>(alloc: Global, words: &[String], input: &mut S) -> Re
         (record { rest = S.rest input.old; faults = S.faults input.old })
         (record { rest = S.rest input.new; faults = S.faults input.new }) out out ending) }
     ensures silent { IfErr result (λ ending. IsSilent ending) }
-    ensures unread { is_decompose (map string_bytes words.now) ≡ false → input.new ≡ input.old }
+    ensures unread { (IsAsking (map string_bytes words.now) → ⊥) → input.new ≡ input.old }
 {
-    if !is_decompose(words) {
+    let request = match read_words(alloc, words) {
+        Ok(request) => request,
+        Err(WordsFault::Memory) => return Err(Ending::NoMemory),
+        Err(WordsFault::NotWritten) => return Err(Ending::NotWritten),
+    };
+    if !is_built(request.verb) {
         return Err(Ending::NotBuilt);
     }
     let bytes = match read_all(alloc, input, MOST_BYTES) {
@@ -35,7 +46,10 @@ fn input_answer<S: Source>(alloc: Global, words: &[String], input: &mut S) -> Re
         Err(ReadStop::Failed) => return Err(Ending::ReadFault),
         Err(ReadStop::TooLong) => return Err(Ending::TooLong),
     };
-    answer(alloc, &bytes).map_err(|_| Ending::NoMemory)
+    match answer(alloc, request, &bytes) {
+        Ok(told) => Ok(told),
+        Err(_) => Err(Ending::NoMemory),
+    }
 }
 
 /// Writes the answer on the output, where there is one to write.
@@ -58,7 +72,7 @@ fn run<S: Source, K: Sink>(alloc: Global, words: &[String], input: &mut S, out: 
         (record { written = K.written out.old; faults = K.faults out.old; stalls = K.stalls out.old })
         (record { written = K.written out.new; faults = K.faults out.new; stalls = K.stalls out.new }) result }
     ensures silent { IsSilent result → out.new ≡ out.old }
-    ensures unread { is_decompose (map string_bytes words.now) ≡ false → input.new ≡ input.old }
+    ensures unread { (IsAsking (map string_bytes words.now) → ⊥) → input.new ≡ input.old }
 {
     let told = match input_answer(alloc, words, input) {
         Ok(told) => told,
@@ -102,16 +116,18 @@ pub fn blad_run<D: Domain, S: Source, K: Sink, L: Sink>(
         (record { written = K.written out.new; faults = K.faults out.new; stalls = K.stalls out.new }) ending
         × IsTold (record { written = L.written err.old; faults = L.faults err.old; stalls = L.stalls err.old })
         (record { written = L.written err.new; faults = L.faults err.new; stalls = L.stalls err.new }) (message_of ending) }
-    // At status 0 a point that fits solves the system that was read exactly where it solves the tree whose document was
-    // printed; and no initial or separant of that tree has value zero there. This holds for every point of every
-    // differential domain that is handed in.
-    ensures solutions { result ≡ 0 → IsSolvedBy D.operations at.now
+    // Where `decompose` ends with status 0, its output is the document of a complete certified tree for the system that was
+    // read. In every differential domain of characteristic zero, at every point that fits, the equations of the system have
+    // value zero and no inequation has, exactly when for some printed chain its equations have value zero and none of its
+    // initials, separants and inequations has. Each printed chain is autoreduced and coherent.
+    ensures headline { result ≡ 0 → (request : Request) → IsWritten (map string_bytes words.now) request
+        → request.verb ≡ Decompose → IsDecomposed D.operations at.now request.budget
         (record { rest = S.rest input.old; faults = S.faults input.old })
         (record { rest = S.rest input.new; faults = S.faults input.new }) (K.written out.old) (K.written out.new) }
     // Where nothing is to be written on the output, no write is called on it.
-    ensures silent { (result ≡ 3) ⊎ (result ≡ 7) ⊎ (result ≡ 9) ⊎ (result ≡ 11) ⊎ (result ≡ 12) → out.new ≡ out.old }
-    // Words that are not built are answered before anything is read.
-    ensures unread { is_decompose (map string_bytes words.now) ≡ false → input.new ≡ input.old }
+    ensures silent { (result ≡ 2) ⊎ (result ≡ 3) ⊎ (result ≡ 7) ⊎ (result ≡ 9) ⊎ (result ≡ 11) ⊎ (result ≡ 12) → out.new ≡ out.old }
+    // Words that ask for nothing that is built are answered before anything is read.
+    ensures unread { (IsAsking (map string_bytes words.now) → ⊥) → input.new ≡ input.old }
 {
     at.is_point();
     let ending = run(alloc, words, input, out);

@@ -1,5 +1,6 @@
 pub mod Quotients
 pub mod Certifying
+pub mod CertifiedChains
 pub mod Progress
 pub mod LawProofs
 pub mod SystemTerms

@@ -9,6 +9,7 @@ pub mod Reasons
 pub mod Walk
 pub mod Forms
 pub mod Certified
+pub mod Chains
 pub mod TreeLines
 pub mod Counting
 pub mod LineOperators

@@ -4,8 +4,13 @@
 
 ghost use Rattle.std.specs.Prelude.{◌≤◌};
 ghost use Rattle.dz_rank.specs.Rankings.{RankingValue};
+ghost use Rattle.dz_diff.specs.Lists.{AllOf};
 ghost use Rattle.dz_diff.specs.Operations.{Setting};
+ghost use Rattle.dz_tree.specs.Certified.{IsCertified};
+ghost use Rattle.dz_tree.specs.Chains.{IsChain};
 ghost use Rattle.dz_tree.specs.Laws.{StateLaws, TreeLaws};
+ghost use Rattle.dz_tree.specs.Root.{System};
+ghost use Rattle.dz_tree.specs.Walk.{Tree, chains_of, ends_in, ends_of};
 
 /// A move leads to one state and a fork to two; and a tree is accepted exactly where each line
 /// holds at its state and its running weight and no end is open.
@@ -19,4 +24,11 @@ pub fn trees_are_judged_by_line()
 #[tactic(auto, using(crate::proofs::StateFacts::state_laws))]
 pub fn states_keep_their_facts()
     ensures { (r : RankingValue) → r.signature.independents ≤ 4 → StateLaws r }
+{}
+
+/// The state at each line `chain` of a certified tree is a chain: autoreduced and coherent.
+#[tactic(auto, using(crate::proofs::CertifiedChains::chains_are))]
+pub fn chains_are_coherent()
+    ensures { (g : Setting) (system : System) (tree : Tree) → IsCertified g system tree
+        → AllOf (IsChain g) (chains_of (ends_in (ends_of g system tree))) }
 {}

@@ -3,7 +3,7 @@
 use crate::alone::Alone;
 use crate::judging::{Judgement, judge};
 use crate::working::Working;
-use dz_case::{CaseStop, limit_name, rule_name};
+use dz_case::{CaseStop, cases_of, limit_name, rule_name};
 use dz_tree::Verdict;
 use itoa::Buffer;
 use std::alloc::{AllocError, Global};
@@ -86,17 +86,8 @@ fn tell(alloc: Global, case: &[&[u8]], into: &mut Vec<u8>) -> Result<(), AllocEr
 
 /// Appends the lines of all cases of an input.
 pub(crate) fn tell_all(alloc: Global, text: &[u8], into: &mut Vec<u8>) -> Result<(), AllocError> {
-    let mut case: Vec<&[u8]> = Vec::new(alloc);
-    for line in text.split(|byte| *byte == b'\n') {
-        if line.starts_with(b"#") {
-            continue;
-        }
-        if !line.is_empty() {
-            case.push(line)?;
-            continue;
-        }
-        tell(alloc, &case, into)?;
-        case.clear();
+    for case in cases_of(alloc, text)?.iter() {
+        tell(alloc, case, into)?;
     }
     Ok(())
 }

@@ -308,6 +308,17 @@ written_shape words request w =
     let pass = settings_pass request.verb w.settings (from_all _ w.settings w.allowed.taken) small w.allowed.once in
     rw (w.spelled, verb_found request.verb, pass) refl
 
+-- they have the shape of a written form
+pub written_has_shape : (words : List (List ℕ)) (request : Request) → IsWritten words request → HasShape words
+written_has_shape words request w = record {
+  verb = request.verb;
+  settings = w.settings;
+  spelled = w.spelled;
+  taken = w.allowed.taken;
+  once = w.allowed.once;
+  short = to_all _ w.settings (within_small w.settings (from_all _ w.settings w.allowed.within));
+}
+
 -- `clap` has no fault in words of a written form
 pub written_taken : (words : List (List ℕ)) (request : Request) → IsWritten words request → fault_of blad_app words ≡ []
 written_taken words request w =

@@ -56,7 +56,7 @@ module _ {r : RankingValue} {R : Type 0} (m : Meaning r R) where
   Differs h = Vanishes h → ⊥
 
   -- ---- the operations
-  collected : (ts : Contributions Symbol) → val (collect (monomial_cmp (ranking_cmp r)) ts) ≡ val ts
+  pub collected : (ts : Contributions Symbol) → val (collect (monomial_cmp (ranking_cmp r)) ts) ≡ val ts
   collected ts = collect_value m.ring (ranking_cmp r) (ranking_order r).same m.at (monomial_cmp (ranking_cmp r)) (same_monomial (ranking_order r)) ts
 
   value_operation : (ts : Contributions Symbol) (a : Polynomial Symbol) → operation (symbols_under r) ts ≡ Ok a → val a ≡ val ts

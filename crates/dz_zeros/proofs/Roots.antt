@@ -16,7 +16,7 @@ use Rattle.dz_tree.specs.Lines.{entries_of}
 use Rattle.dz_tree.specs.Walk.{Tree, End, ends_of}
 use Rattle.dz_zeros.proofs.Meaning.{Meaning, Vanishes, Differs, norm_vanishes, vanishes_norm, unit_nonzero}
 use Rattle.dz_zeros.proofs.Actions.{Solution, GoodState}
-use Rattle.dz_zeros.proofs.Walks.{SolvedEnd, walk_same}
+use Rattle.dz_zeros.proofs.Walks.{GoodEnd, SolvedEnd, walk_same}
 
 module _ {r : RankingValue} {R : Type 0} (m : Meaning r R) where
   -- the polynomial zero vanishes
@@ -53,13 +53,13 @@ module _ {r : RankingValue} {R : Type 0} (m : Meaning r R) where
     kept_all (symbols_under r) (is_unit (symbols_under r)) (Good r) (Good r) (λ p k g. good_norm r p k) [] s.inequations good.1 tt good.1,
   )
 
-  -- a certified tree has the solutions of its system at its ends
+  -- a certified tree has the solutions of its system at its ends, and the states at these are good
   pub tree_same : (s : System) (tree : Tree) (ends : List End) → ends_of (setting_of r) s tree ≡ Ok ends → GoodSystem s
-      → (SystemSolved s → SomeOf (SolvedEnd m) ends) × (SomeOf (SolvedEnd m) ends → SystemSolved s)
+      → (SystemSolved s → SomeOf (SolvedEnd m) ends) × (SomeOf (SolvedEnd m) ends → SystemSolved s) × AllOf (GoodEnd m) ends
   unfolding ends_of
   tree_same s tree ends e good =
       let h = walk_same m tree.budget 0 1 (root_of (symbols_under r) s ∷ []) (entries_of tree.lines) ends e (root_good s good, tt) in
-      ((λ x. h.0 (inl (root_down s good x))), (λ x. root_up s good (only (h.1 x))))
+      ((λ x. h.0 (inl (root_down s good x))), (λ x. root_up s good (only (h.1 x))), h.2)
     where
       only : SomeOf (Solution m) (root_of (symbols_under r) s ∷ []) → Solution m (root_of (symbols_under r) s)
       only (inl x) = x

@@ -55,7 +55,8 @@ module _ {r : RankingValue} {R : Type 0} (m : Meaning r R) where
         (λ zf. subst (Vanishes m) s.end_is (norm_vanishes m s.rest good (rest_left ∙ left_value ∙ ap (m.ring.product _) zf ∙ product_zero m.ring _))),
       )
 
-  allowed_nonzero : (hs : Polynomials) (a : Polynomial Symbol) → Good r a → is_allowed (symbols_under r) hs a ≡ true → AllOf (Differs m) hs → Differs m a
+  -- a multiplier that is allowed does not vanish
+  pub allowed_nonzero : (hs : Polynomials) (a : Polynomial Symbol) → Good r a → is_allowed (symbols_under r) hs a ≡ true → AllOf (Differs m) hs → Differs m a
   allowed_nonzero hs a good e h z =
       elim (either (is_unit (symbols_under r) a) (is_member (symbols_under r) (norm a) hs) e) [
         | inl u ↦ unit_nonzero m a good u z

@@ -3,7 +3,7 @@ use Rattle.std.proofs.Common.{◌≡◌, ◌≢◌, ◌⊎◌, inl, inr, ◌↔�
 use Rattle.dz_algebra.specs.Derivation.{derivative_contributions, polynomial_derivative}
 use Rattle.dz_algebra.specs.Domain.{Operations, DomainLaws}
 use Rattle.dz_algebra.specs.Monomial.{Monomial, MonomialIn}
-use Rattle.dz_algebra.specs.Parts.{has_derivative, is_ground}
+use Rattle.dz_algebra.specs.Parts.{has_derivative, initial, is_ground, separant}
 use Rattle.dz_algebra.specs.Polynomial.{Contributions, Polynomial, PolynomialIn}
 use Rattle.dz_algebra.specs.Ring.{Value, same_value, values_arithmetic, ring_of_values, negative_zero, negative_negative}
 use Rattle.dz_algebra.specs.Value.{value, whole_in}
@@ -30,14 +30,18 @@ use Rattle.dz_step.specs.declared.Role.TheVariants.{Free}
 use Rattle.dz_step.specs.declared.Step.{Step}
 use Rattle.dz_step.specs.Run.{run}
 use Rattle.dz_tree.specs.declared.Rule.{Rule}
-use Rattle.dz_tree.specs.Walk.{Tree, End, ends_of, ends_in}
+use Rattle.dz_tree.specs.Certified.{IsCertified}
+use Rattle.dz_tree.specs.Chains.{IsChain}
+use Rattle.dz_tree.specs.Walk.{Tree, End, all_chains, chains_of, ends_of, ends_in}
+use Rattle.dz_tree.proofs.CertifiedChains.{chains_are}
 use Rattle.dz_tree.proofs.Certifying.{answer_certified}
 use Rattle.dz_zeros.specs.Laws.{ZeroSets}
-use Rattle.dz_zeros.specs.Solves.{HasValueZero, Solves, SolvesState}
+use Rattle.dz_zeros.specs.Solves.{HasValueZero, IsRegularAt, Solves, SolvesChain, SolvesState}
 use Rattle.dz_zeros.proofs.Meaning.{Meaning, Vanishes, Differs}
 use Rattle.dz_zeros.proofs.Steps.{run_alike}
 use Rattle.dz_zeros.proofs.Actions.{GoodState, closed_has_none, good_equations, serves_free}
 use Rattle.dz_zeros.proofs.Roots.{tree_same}
+use Rattle.dz_zeros.proofs.RegularZeros.{Regular, RegularZero, chain_regular, ends_regular}
 use Rattle.dz_zeros.proofs.Walks.{SolvedEnd}
 
 -- ---- symbols of a signature
@@ -147,6 +151,57 @@ module _ (r : RankingValue) {E : Type 0} {o : Operations E} (laws : DomainLaws o
           ((λ h. some_to ends (k.0 (solves_from system.equations system.inequations h))), (λ h. solves_to system.equations system.inequations (k.1 (some_from ends h))))
       by_answer (Err e) f ok = cc
 
+  regular_to : (p : Polynomial Symbol) → Regular meaning_of p → IsRegularAt (symbols_under r) o c p
+  unfolding meaning_of
+  regular_to p h = record {
+    initial = λ l k z. h.initial_differs l k (from_point (initial (ranking_cmp r) l p) z);
+    separant = λ l k z. h.separant_differs l k (from_point (separant (ranking_cmp r) l p) z);
+  }
+
+  all_regular_to : (ps : Polynomials) → AllOf (Regular meaning_of) ps → AllOf (λ p. IsRegularAt (symbols_under r) o c p) ps
+  all_regular_to [] h = tt
+  all_regular_to (p ∷ ps) h = (regular_to p h.0, all_regular_to ps h.1)
+
+  chain_solutions : (s : State) → AreOver r s.equations s.inequations → IsChain (setting_of r) s → SolvesState o c s → SolvesChain (symbols_under r) o c s
+  chain_solutions s over k h = record {
+    members = h;
+    multipliers = all_regular_to s.equations (chain_regular meaning_of s (all_good r s.equations over.equations_over, all_good r s.inequations over.inequations_over) k (solves_from s.equations s.inequations h));
+  }
+
+  chain_to : (ss : List State) → SomeOf (RegularZero meaning_of) ss → SomeOf (SolvesChain (symbols_under r) o c) ss
+  chain_to [] h = h
+  chain_to (s ∷ ss) (inl h) = inl (record { members = solves_to s.equations s.inequations h.solution; multipliers = all_regular_to s.equations h.equations })
+  chain_to (s ∷ ss) (inr h) = inr (chain_to ss h)
+
+  regular_from : (p : Polynomial Symbol) → IsRegularAt (symbols_under r) o c p → Regular meaning_of p
+  unfolding meaning_of
+  regular_from p h = record {
+    initial_differs = λ l k z. h.initial l k (to_point (initial (ranking_cmp r) l p) z);
+    separant_differs = λ l k z. h.separant l k (to_point (separant (ranking_cmp r) l p) z);
+  }
+
+  all_regular_from : (ps : Polynomials) → AllOf (λ p. IsRegularAt (symbols_under r) o c p) ps → AllOf (Regular meaning_of) ps
+  all_regular_from [] h = tt
+  all_regular_from (p ∷ ps) h = (regular_from p h.0, all_regular_from ps h.1)
+
+  chain_from : (ss : List State) → SomeOf (SolvesChain (symbols_under r) o c) ss → SomeOf (RegularZero meaning_of) ss
+  chain_from [] h = h
+  chain_from (s ∷ ss) (inl h) = inl (record { solution = solves_from s.equations s.inequations h.members; equations = all_regular_from s.equations h.multipliers })
+  chain_from (s ∷ ss) (inr h) = inr (chain_from ss h)
+
+  complete_solutions : (system : System) (tree : Tree) → AreOver r system.equations system.inequations → IsCertified (setting_of r) system tree
+      → all_chains (ends_in (ends_of (setting_of r) system tree)) ≡ true
+      → Solves o c system.equations system.inequations ↔ SomeOf (SolvesChain (symbols_under r) o c) (chains_of (ends_in (ends_of (setting_of r) system tree)))
+  complete_solutions system tree over certified all = by_answer (ends_of (setting_of r) system tree) refl (answer_certified (setting_of r) system tree certified) (chains_are (setting_of r) system tree certified) all
+    where
+      by_answer : (q : Result (List End) (ℕ × Rule)) → ends_of (setting_of r) system tree ≡ q → IsOk q → AllOf (IsChain (setting_of r)) (chains_of (ends_in q)) → all_chains (ends_in q) ≡ true
+          → Solves o c system.equations system.inequations ↔ SomeOf (SolvesChain (symbols_under r) o c) (chains_of (ends_in q))
+      by_answer (Ok ends) e ok chains all =
+          let k = tree_same meaning_of system tree ends e (all_good r system.equations over.equations_over, all_good r system.inequations over.inequations_over) in
+          let z = ends_regular meaning_of ends all k.2 chains in
+          ((λ h. chain_to (chains_of ends) (z.0 (k.0 (solves_from system.equations system.inequations h)))), (λ h. solves_to system.equations system.inequations (k.1 (z.1 (chain_from (chains_of ends) h)))))
+      by_answer (Err x) e ok chains all = cc
+
   closed_solutions : (s : State) → AreOver r s.equations s.inequations → is_closed (symbols_under r) s ≡ true → SolvesState o c s → ⊥
   closed_solutions s over e h =
       closed_has_none meaning_of s e (all_good r s.equations over.equations_over, all_good r s.inequations over.inequations_over) (solves_from s.equations s.inequations h)
@@ -159,10 +214,12 @@ module _ (r : RankingValue) {E : Type 0} {o : Operations E} (laws : DomainLaws o
       let k = run_alike meaning_of s Free f steps (record { end = []; count = count }) e (good_equations meaning_of s good) (good_over r f of_f) in
       to_point f ((k.0 (serves_free meaning_of s (solves_from s.equations s.inequations h))).0 refl)
 
--- the three laws
+-- the laws
 pub zero_sets : {E : Type 0} (r : RankingValue) (o : Operations E) → DomainLaws o → (c : Coordinates E) → IsPoint o c → FitsSignature r.signature c → ZeroSets r o c
 zero_sets r o laws c point fits = record {
   of_tree = λ system tree over h. tree_solutions r laws point fits system tree over (answer_certified (setting_of r) system tree h);
+  of_chain = chain_solutions r laws point fits;
+  of_complete = complete_solutions r laws point fits;
   of_closed = closed_solutions r laws point fits;
   of_run = run_solutions r laws point fits;
 }

@@ -1,4 +1,4 @@
--- The theorem of zero sets: trees, closed states, and runs to zero, at a point.
+-- The theorem of zero sets: trees, chains, closed states, and runs to zero, at a point.
 use Rattle.std.specs.Prelude.{◌≡◌, ◌↔◌, true, [], List, Ok, ℕ}
 use Rattle.dz_algebra.specs.Domain.{Operations}
 use Rattle.dz_algebra.specs.Polynomial.{Polynomial}
@@ -14,9 +14,10 @@ use Rattle.dz_step.specs.declared.Role.TheVariants.{Free}
 use Rattle.dz_step.specs.declared.Step.{Step}
 use Rattle.dz_step.specs.Run.{run}
 use Rattle.dz_tree.specs.Certified.{IsCertified}
-use Rattle.dz_tree.specs.Walk.{Tree, ends_of, ends_in}
+use Rattle.dz_tree.specs.Chains.{IsChain}
+use Rattle.dz_tree.specs.Walk.{Tree, all_chains, chains_of, ends_of, ends_in}
 use Rattle.dz_diff.specs.Over.{AreOver, IsOver}
-use Rattle.dz_zeros.specs.Solves.{HasValueZero, Solves, SolvesState}
+use Rattle.dz_zeros.specs.Solves.{HasValueZero, Solves, SolvesChain, SolvesState}
 
 -- what holds at a point that fits a ranking's signature
 pub record ZeroSets {E : Type 0} (r : RankingValue) (o : Operations E) (c : Coordinates E) : Type 0 where
@@ -25,6 +26,13 @@ pub record ZeroSets {E : Type 0} (r : RankingValue) (o : Operations E) (c : Coor
       → IsCertified (setting_of r) system tree
       → Solves o c system.equations system.inequations
       ↔ SomeOf (λ e. SolvesState o c e.state) (ends_in (ends_of (setting_of r) system tree))
+  -- where it solves the state of a chain, it is a regular zero of the chain
+  pub of_chain : (s : State) → AreOver r s.equations s.inequations → IsChain (setting_of r) s → SolvesState o c s → SolvesChain (symbols_under r) o c s
+  -- the point solves a system exactly when it is a regular zero of some chain of a complete certified tree for it
+  pub of_complete : (system : System) (tree : Tree) → AreOver r system.equations system.inequations
+      → IsCertified (setting_of r) system tree → all_chains (ends_in (ends_of (setting_of r) system tree)) ≡ true
+      → Solves o c system.equations system.inequations
+      ↔ SomeOf (SolvesChain (symbols_under r) o c) (chains_of (ends_in (ends_of (setting_of r) system tree)))
   -- it solves no closed state
   pub of_closed : (s : State) → AreOver r s.equations s.inequations → is_closed (symbols_under r) s ≡ true → SolvesState o c s → ⊥
   -- a polynomial with a free run to zero by a state has value zero where the point solves the state

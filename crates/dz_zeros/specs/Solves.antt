@@ -1,7 +1,9 @@
--- What it means that a point solves equations and inequations.
-use Rattle.std.specs.Prelude.{◌≡◌}
+-- What it means that a point solves equations and inequations, and that it solves a chain.
+use Rattle.std.specs.Prelude.{◌≡◌, Some}
 use Rattle.dz_algebra.specs.Domain.{Operations}
+use Rattle.dz_algebra.specs.Parts.{initial, leader, separant}
 use Rattle.dz_algebra.specs.Polynomial.{Polynomial}
+use Rattle.dz_algebra.specs.Symbols.{Symbols}
 use Rattle.dz_rank.specs.declared.symbols.Symbol.{Symbol}
 use Rattle.dz_domain.specs.Point.{Coordinates, value_at}
 use Rattle.dz_diff.specs.Lists.{AllOf}
@@ -20,3 +22,14 @@ pub record Solves {E : Type 0} (o : Operations E) (c : Coordinates E) (equations
 -- a point solves a state
 abbrev pub SolvesState : {E : Type 0} → Operations E → Coordinates E → State → Type 0
 SolvesState o c s = Solves o c s.equations s.inequations
+
+-- neither the initial nor the separant of an equation has value zero
+pub record IsRegularAt {E : Type 0} (g : Symbols Symbol) (o : Operations E) (c : Coordinates E) (p : Polynomial Symbol) : Type 0 where
+  pub initial : (l : Symbol) → leader g p ≡ Some l → HasValueZero o c (initial g.cmp l p) → ⊥
+  pub separant : (l : Symbol) → leader g p ≡ Some l → HasValueZero o c (separant g.cmp l p) → ⊥
+
+-- A point is a regular zero of a chain (Ritt, Kolchin): its equations have value zero, and none of its initials, separants and
+-- inequations has.
+pub record SolvesChain {E : Type 0} (g : Symbols Symbol) (o : Operations E) (c : Coordinates E) (s : State) : Type 0 where
+  pub members : SolvesState o c s
+  pub multipliers : AllOf (λ p. IsRegularAt g o c p) s.equations

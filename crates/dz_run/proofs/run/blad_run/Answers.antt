@@ -1,10 +1,10 @@
 use Rattle.std.proofs.Common.{map, string_bytes, sym, ◌∙◌}
-use Rattle.dz_run.proofs.Solutions.{ended_is_solved}
+use Rattle.dz_run.proofs.Decompositions.{ended_decomposed}
 use Rattle.dz_run.proofs.run.blad_run.Goals as goal
 
-pub returns-clause-solutions : goal.returns-clause-solutions
-returns-clause-solutions g c = λ status.
-    ended_is_solved g.D.Domain.laws c.is_point.ensures (map string_bytes c.args.words.now)
+pub returns-clause-headline : goal.returns-clause-headline
+returns-clause-headline g c = λ status.
+    ended_decomposed g.D.Domain.laws c.is_point.ensures (map string_bytes c.args.words.now)
     record { rest = g.S.Source.rest c.args.input.now; faults = g.S.Source.faults c.args.input.now }
     record { rest = g.S.Source.rest c.run-ending.new.input; faults = g.S.Source.faults c.run-ending.new.input }
     record { written = g.K.Sink.written c.args.out.now; faults = g.K.Sink.faults c.args.out.now; stalls = g.K.Sink.stalls c.args.out.now }

@@ -1,0 +1,107 @@
+//! What a case says.
+
+use dz_case::{CaseStop, number, split_at_first};
+use std::alloc::{AllocError, Global};
+
+/// The words of a run, and what its source and its output are like.
+#[derive(Drop)]
+pub(crate) struct Case<'a> {
+    pub(crate) words: Vec<&'a [u8]>,
+    pub(crate) bytes: Vec<u8>,
+    pub(crate) gives: u32,
+    pub(crate) failing_reads: Vec<u32>,
+    pub(crate) room: u32,
+    pub(crate) takes: u32,
+    pub(crate) failing_writes: Vec<u32>,
+    pub(crate) squares: bool,
+}
+
+impl<'a> Case<'a> {
+    /// No words, an empty input, and objects that do not fail.
+    fn new(alloc: Global) -> Case<'a> {
+        Case {
+            words: Vec::new(alloc),
+            bytes: Vec::new(alloc),
+            gives: 4096,
+            failing_reads: Vec::new(alloc),
+            room: 1_048_576,
+            takes: 4096,
+            failing_writes: Vec::new(alloc),
+            squares: false,
+        }
+    }
+}
+
+/// The words behind a space each.
+fn read_words<'a>(text: &'a [u8], words: &mut Vec<&'a [u8]>) -> Result<(), AllocError> {
+    for word in text.split(|byte| *byte == b' ') {
+        words.push(word)?;
+    }
+    Ok(())
+}
+
+/// Appends a text so many times.
+fn repeat(text: &[u8], into: &mut Vec<u8>) -> Result<(), CaseStop> {
+    let (first, text) = split_at_first(text, b' ');
+    let Some(times) = number(first) else {
+        return Err(CaseStop::NoCase);
+    };
+    for _ in 0..times {
+        into.extend_from_slice(text)?;
+    }
+    Ok(())
+}
+
+/// Takes a setting with a number.
+fn set(case: &mut Case<'_>, name: &[u8], text: &[u8]) -> Result<(), CaseStop> {
+    let Some(value) = number(text) else {
+        return Err(CaseStop::NoCase);
+    };
+    if name == b"gives".as_slice() {
+        case.gives = value;
+    } else if name == b"reads".as_slice() {
+        case.failing_reads.push(value)?;
+    } else if name == b"room".as_slice() {
+        case.room = value;
+    } else if name == b"takes".as_slice() {
+        case.takes = value;
+    } else if name == b"writes".as_slice() {
+        case.failing_writes.push(value)?;
+    } else {
+        return Err(CaseStop::NoCase);
+    }
+    Ok(())
+}
+
+/// Takes a line of a case.
+fn take<'a>(case: &mut Case<'a>, line: &'a [u8]) -> Result<(), CaseStop> {
+    match line {
+        [b'|', text @ ..] => {
+            case.bytes.extend_from_slice(text)?;
+            case.bytes.push(b'\n')?;
+            Ok(())
+        }
+        [b'\\', text @ ..] => Ok(case.bytes.extend_from_slice(text)?),
+        [b'*', text @ ..] => repeat(text, &mut case.bytes),
+        _ => {
+            let (name, text) = split_at_first(line, b' ');
+            if line == b"squares".as_slice() {
+                case.squares = true;
+                return Ok(());
+            }
+            if name == b"words".as_slice() {
+                return Ok(read_words(text, &mut case.words)?);
+            }
+            set(case, name, text)
+        }
+    }
+}
+
+/// The case of the lines after its name.
+pub(crate) fn read_case<'a>(alloc: Global, lines: &[&'a [u8]]) -> Result<Case<'a>, CaseStop> {
+    let mut case = Case::new(alloc);
+    for line in lines {
+        take(&mut case, line)?;
+    }
+    Ok(case)
+}

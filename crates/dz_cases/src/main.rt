@@ -1,0 +1,45 @@
+//! Runs the program over objects in memory, on cases that were worked by hand.
+//!
+//! The input has cases, each of lines with an empty line after them: a name; the words, each behind
+//! one space, after `words`; settings of the outside; and the bytes of the input. A line that begins
+//! with `#` is a comment. The settings are
+//!
+//! - `gives N`: a read gives at most N bytes (4,096 if left out);
+//! - `reads N`: the read with this number fails, counted from 1;
+//! - `room N`: the output takes at most N bytes in all (1,048,576 if left out);
+//! - `takes N`: a write takes at most N bytes (4,096 if left out);
+//! - `writes N`: the write with this number fails, counted from 1;
+//! - `squares`: the run is told a point at which the first unknown is the square of the independent.
+//!
+//! Of the bytes, `|TEXT` is a line, `\TEXT` is a text without its end, and `*N TEXT` is a text N times.
+//! For each case its name and status are written, then the message behind `!`, and the output in
+//! lines of the first two kinds.
+#![tactic(auto)]
+
+mod cases;
+mod running;
+mod telling;
+
+use crate::telling::tell_all;
+use dz_outside::{StdSink, StdSource, read_all, write_all};
+use std::process::ExitCode;
+
+/// The most bytes of an input.
+const MOST_BYTES: usize = 16_777_216;
+
+fn main(rt: HostRuntime) -> ExitCode {
+    let alloc = rt.alloc();
+    let mut input = StdSource::new(rt.stdin());
+    let mut out = StdSink::new(rt.stdout());
+    let Ok(bytes) = read_all(alloc, &mut input, MOST_BYTES) else {
+        return ExitCode::from(1);
+    };
+    let mut told = Vec::new(alloc);
+    let Ok(()) = tell_all(alloc, &bytes, &mut told) else {
+        return ExitCode::from(1);
+    };
+    match write_all(&mut out, &told) {
+        Ok(()) => ExitCode::from(0),
+        Err(_) => ExitCode::from(1),
+    }
+}
