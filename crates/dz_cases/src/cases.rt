@@ -40,14 +40,15 @@ fn read_words<'a>(text: &'a [u8], words: &mut Vec<&'a [u8]>) -> Result<(), Alloc
     Ok(())
 }
 
-/// Appends a text so many times.
-fn repeat(text: &[u8], into: &mut Vec<u8>) -> Result<(), CaseStop> {
+/// Appends a text so many times, each with an end behind it.
+fn repeat(text: &[u8], end: &[u8], into: &mut Vec<u8>) -> Result<(), CaseStop> {
     let (first, text) = split_at_first(text, b' ');
     let Some(times) = number(first) else {
         return Err(CaseStop::NoCase);
     };
     for _ in 0..times {
         into.extend_from_slice(text)?;
+        into.extend_from_slice(end)?;
     }
     Ok(())
 }
@@ -82,7 +83,8 @@ fn take<'a>(case: &mut Case<'a>, line: &'a [u8]) -> Result<(), CaseStop> {
             Ok(())
         }
         [b'\\', text @ ..] => Ok(case.bytes.extend_from_slice(text)?),
-        [b'*', text @ ..] => repeat(text, &mut case.bytes),
+        [b'*', text @ ..] => repeat(text, b"", &mut case.bytes),
+        [b'+', text @ ..] => repeat(text, b"\n", &mut case.bytes),
         _ => {
             let (name, text) = split_at_first(line, b' ');
             if line == b"squares".as_slice() {

@@ -11,7 +11,8 @@
 //! - `writes N`: the write with this number fails, counted from 1;
 //! - `squares`: the run is told a point at which the first unknown is the square of the independent.
 //!
-//! Of the bytes, `|TEXT` is a line, `\TEXT` is a text without its end, and `*N TEXT` is a text N times.
+//! Of the bytes, `|TEXT` is a line, `\TEXT` is a text without its end, and `+N TEXT` and `*N TEXT` are
+//! the same N times.
 //! For each case its name and status are written, then the message behind `!`, and the output in
 //! lines of the first two kinds.
 #![tactic(auto)]
