@@ -19,5 +19,6 @@ pub mod SystemReadings
 pub mod Postfix
 pub mod SymbolsFit
 pub mod SystemExpressions
+pub mod SystemValues
 pub mod Ranked
 pub mod NameTokens

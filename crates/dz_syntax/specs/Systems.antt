@@ -1,9 +1,11 @@
 -- Reading a system from left to right.
-use Rattle.std.specs.Prelude.{ℕ, ◌+◌, List, [], length, false, Result, Ok, All}
+use Rattle.std.specs.Prelude.{◌≢◌, ◌≤◌, ℕ, ◌+◌, List, [], length, false, Result, Ok, All}
+use Rattle.std.specs.List.{AllPairs}
 use Rattle.dz_int.specs.Fractions.{Fraction}
 use Rattle.dz_rank.specs.declared.rankings.Signature.{Signature}
 use Rattle.dz_rank.specs.declared.symbols.Symbol.{Symbol}
 use Rattle.dz_rank.specs.Rankings.{BlockValue, block_values}
+use Rattle.dz_rank.specs.Symbols.{BelongsTo, total_order}
 use Rattle.dz_syntax.specs.declared.fault.Fault.{Fault}
 use Rattle.dz_syntax.specs.declared.fault.SyntaxFault.{SyntaxFault}
 use Rattle.dz_syntax.specs.declared.marks.Section.TheVariants.{Equations, Inequations}
@@ -78,3 +80,13 @@ pub record HasExpressions (t : Tree) : Type 0 where
   pub equations : All (λ item. IsExpression t.signature item) t.equations
   pub inequations : All (λ item. IsExpression t.signature item) t.inequations
   pub questions : All (λ item. IsExpression t.signature item) t.questions
+
+-- no symbol stands twice
+abbrev pub AreDistinct : List (Symbol × Fraction) → Type 0
+AreDistinct values = AllPairs (λ p q. p.0 ≢ q.0) values
+
+-- the values of a tree are of distinct symbols of its signature, with total order at most 60
+pub record HasValues (t : Tree) : Type 0 where
+  pub belong : All (λ p. BelongsTo t.signature p.0) t.values
+  pub low : All (λ p. total_order p.0 ≤ 60) t.values
+  pub distinct : AreDistinct t.values

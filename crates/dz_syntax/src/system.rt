@@ -5,8 +5,8 @@ ghost use Rattle.dz_rank.specs.Rankings.{IsRanking, block_values};
 ghost use Rattle.dz_syntax.specs.Faults.{Gives};
 ghost use Rattle.dz_syntax.specs.Names.{no_names, signature_of};
 ghost use Rattle.dz_syntax.specs.Items.{Answers};
-ghost use Rattle.dz_syntax.specs.Systems.{HasExpressions, Tree, header_at, system_at, system_of};
-ghost use Rattle.dz_syntax.specs.Systems.{tree_of};
+ghost use Rattle.dz_syntax.specs.Systems.{HasExpressions, HasValues, Tree, header_at, system_at};
+ghost use Rattle.dz_syntax.specs.Systems.{system_of, tree_of};
 ghost use Rattle.dz_syntax.specs.SystemGrammar.{IsSystem};
 ghost use Rattle.dz_syntax.specs.declared.endings.Form.{Form};
 
@@ -111,6 +111,8 @@ pub fn read_system(alloc: Global, bytes: &[u8], form: Form) -> Result<SystemTree
     ensures exact { Answers (λ t. tree_of t) result (system_of form bytes.now) }
     // What is read has items that are expressions over the declared names.
     ensures expressions { IfOk result (λ t. HasExpressions (tree_of t)) }
+    // What is read has values of distinct symbols of the signature.
+    ensures values { IfOk result (λ t. HasValues (tree_of t)) }
     // The blocks that are read name each dependent of the signature exactly once.
     ensures ranking { IfOk result (λ t. IsRanking
         (record { signature = (tree_of t).signature; blocks = (tree_of t).blocks })) }

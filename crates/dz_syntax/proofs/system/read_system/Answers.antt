@@ -3,6 +3,7 @@ use Rattle.dz_syntax.specs.Items.{Answers}
 use Rattle.dz_syntax.specs.Systems.{tree_of}
 use Rattle.dz_syntax.proofs.Ranked.{have_ranking, have_signature}
 use Rattle.dz_syntax.proofs.SystemExpressions.{have_expressions}
+use Rattle.dz_syntax.proofs.SystemValues.{have_values}
 use Rattle.dz_syntax.proofs.SystemReadings.{is_found_system, system_again}
 use Rattle.dz_syntax.proofs.system.read_system.Goals as goal
 
@@ -14,6 +15,9 @@ returns-clause-only c = λ tree is. subst (λ r. Answers (λ t. tree_of t) c.pla
 
 pub returns-clause-expressions : goal.returns-clause-expressions
 returns-clause-expressions c = have_expressions c.args.form c.args.bytes.now c.placed_system.result c.placed_system.ensures
+
+pub returns-clause-values : goal.returns-clause-values
+returns-clause-values c = have_values c.args.form c.args.bytes.now c.placed_system.result c.placed_system.ensures
 
 pub returns-clause-ranking : goal.returns-clause-ranking
 returns-clause-ranking c = have_ranking c.args.form c.args.bytes.now c.placed_system.result c.placed_system.ensures
