@@ -1,7 +1,7 @@
 //! The texts of runs, products and stops.
 
 use dz_ask::Power;
-use dz_case::limit_name;
+use dz_form::limit_word;
 use dz_rank::Operator;
 use dz_step::{AttemptStop, Step, StepList};
 use itoa::Buffer;
@@ -71,7 +71,7 @@ pub(crate) fn write_stop(into: &mut Vec<u8>, stop: AttemptStop) -> Result<(), Al
         }
         AttemptStop::Large(limit, step) => {
             into.extend_from_slice(b"stopped large ")?;
-            into.extend_from_slice(limit_name(limit))?;
+            into.extend_from_slice(limit_word(limit))?;
             into.extend_from_slice(b" ")?;
             write_step(into, step)
         }

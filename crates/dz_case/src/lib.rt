@@ -7,7 +7,7 @@ mod systems;
 mod words;
 
 use dz_poly::PolyStop;
-pub use names::{limit_name, rule_name};
+pub use names::rule_name;
 use std::alloc::{AllocError, AllocFailed};
 pub use systems::{book_for, read_case, system_of, values};
 pub use words::{cases_of, number, place, split_at_first};

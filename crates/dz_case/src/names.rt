@@ -1,6 +1,5 @@
-//! The names of rules and limits.
+//! The names of rules.
 
-use dz_poly::Limit;
 use dz_tree::Rule;
 
 /// The name of a rule.
@@ -24,18 +23,5 @@ pub fn rule_name(rule: Rule) -> &'static [u8] {
         Rule::Pairs => b"pairs",
         Rule::Coherence => b"coherence",
         Rule::Reason => b"reason",
-    }
-}
-
-/// The name of a limit.
-pub fn limit_name(limit: Limit) -> &'static [u8] {
-    match limit {
-        Limit::Order => b"order",
-        Limit::Exponent => b"exponent",
-        Limit::Symbols => b"symbols",
-        Limit::Terms => b"terms",
-        Limit::Polynomials => b"polynomials",
-        Limit::Node => b"node",
-        Limit::Splits => b"splits",
     }
 }

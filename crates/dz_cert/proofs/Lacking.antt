@@ -10,7 +10,8 @@ use Rattle.dz_step.specs.declared.Which.{Which}
 use Rattle.dz_step.specs.declared.Which.TheVariants.{Initial, Separant}
 use Rattle.dz_cert.specs.declared.words.Word.{Word}
 use Rattle.dz_cert.specs.declared.words.Word.TheVariants as words
-use Rattle.dz_cert.specs.LineTexts.{limit_word, which_word}
+use Rattle.dz_cert.specs.LineTexts.{which_word}
+use Rattle.dz_form.specs.Limits.{limit_word}
 use Rattle.dz_cert.specs.Words.{word_text}
 use Rattle.dz_rank.specs.declared.symbols.Operator.{Operator}
 use Rattle.dz_rank.specs.declared.symbols.Symbol.{Symbol}

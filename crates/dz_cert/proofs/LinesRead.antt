@@ -30,7 +30,8 @@ use Rattle.dz_tree.specs.Moves.{Action, reduce, weed, add, divide, split, factor
 use Rattle.dz_cert.specs.declared.words.Word.{Word}
 use Rattle.dz_cert.specs.declared.words.Word.TheVariants as words
 use Rattle.dz_cert.specs.LineReading.{factor_at, limit_at, line_at, line_from, next_by, pair_at, place_at, positive, run_at, split_at, step_at, steps_at, which_at}
-use Rattle.dz_cert.specs.LineTexts.{AreStepsOf, IsActionOf, IsLineOf, IsStepOf, action_words, behind_blanks, limit_word, line_text, line_words, spaced, step_text, step_words, which_word}
+use Rattle.dz_cert.specs.LineTexts.{AreStepsOf, IsActionOf, IsLineOf, IsStepOf, action_words, behind_blanks, line_text, line_words, spaced, step_text, step_words, which_word}
+use Rattle.dz_form.specs.Limits.{limit_word}
 use Rattle.dz_cert.specs.Words.{word_at}
 use Rattle.dz_cert.proofs.Lacking.{AllLack, IsOutside, blank_outside, decimal-lacks, decimal-lacks_colon, feed_outside, lacks-append, operator_text-lacks, symbol_text-lacks}
 use Rattle.dz_cert.proofs.LineWords.{LackBlanks, words_of-spaced}

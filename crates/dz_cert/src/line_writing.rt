@@ -1,18 +1,20 @@
 //! Writing one line of a tree.
 
 ghost use Rattle.std.specs.Prelude.{◌≡◌, ◌<◌, ◌++◌, [], ◌∷◌, true, codes, decimal, OnOk};
-ghost use Rattle.dz_cert.specs.LineTexts.{AreStepsOf, IsActionOf, IsLineOf, IsStepOf};
-ghost use Rattle.dz_cert.specs.LineTexts.{behind_blanks, limit_word, line_text, next_words, spaced};
+ghost use Rattle.dz_cert.specs.LineTexts.{AreStepsOf, IsActionOf, IsLineOf};
+ghost use Rattle.dz_cert.specs.LineTexts.{behind_blanks, line_text, next_words, spaced};
+ghost use Rattle.dz_form.specs.Limits.{limit_word};
 ghost use Rattle.dz_cert.specs.LineTexts.{step_text, step_words, which_word};
 ghost use Rattle.dz_form.specs.Texts.{symbol_text};
-ghost use Rattle.dz_rank.specs.Symbols.{BelongsTo};
+ghost use Rattle.dz_rank.specs.Symbols.{BelongsTo, IsOperatorOf};
+ghost use Rattle.dz_step.specs.StepOperators.{DeriveAlong};
 ghost use Rattle.dz_syntax.specs.Names.{signature_of};
 ghost use Rattle.dz_tree.specs.Forms.{is_spelled, is_spelled_action};
 ghost use Rattle.dz_tree.specs.TreeLines.{action_of, line_of};
 ghost use Rattle.dz_tree.specs.declared.lines.Line.TheVariants.{Wide};
 
-use crate::parts::{limit_word, which_word};
-use dz_form::{write_operator, write_symbol};
+use crate::parts::which_word;
+use dz_form::{limit_word, write_operator, write_symbol};
 use dz_rank::Symbol;
 use dz_step::{Step, StepList, Which};
 use dz_syntax::Names;
@@ -46,10 +48,10 @@ fn push_symbol(into: &mut Vec<u8>, names: &Names, symbol: Symbol) -> Result<(), 
     write_symbol(symbol, names, into)
 }
 
-/// Appends a step behind a blank.
+/// Appends a step behind a blank: the place of its divisor, a colon and its operator.
 #[tactic(auto, unfolding(crate::specs::LineTexts::step_text))]
-fn push_step(into: &mut Vec<u8>, names: &Names, step: Step) -> Result<(), AllocError>
-    requires { IsStepOf names.now step }
+pub fn write_step(step: Step, names: &Names, into: &mut Vec<u8>) -> Result<(), AllocError>
+    requires { IsOperatorOf names.now.independents step.operator }
     ensures { OnOk result (into.new.items ≡ into.old.items
         ++ behind_blanks (step_text names.now step ∷ [])) }
 {
@@ -58,26 +60,27 @@ fn push_step(into: &mut Vec<u8>, names: &Names, step: Step) -> Result<(), AllocE
     write_operator(step.operator, names, into)
 }
 
-/// Appends steps, each behind a blank.
-fn push_steps(into: &mut Vec<u8>, names: &Names, run: &StepList) -> Result<(), AllocError>
-    requires { AreStepsOf names.now run.now }
+/// Appends the steps of a run, each behind a blank; nothing where there is none.
+pub fn write_steps(run: &StepList, names: &Names, into: &mut Vec<u8>) -> Result<(), AllocError>
+    requires { DeriveAlong names.now.independents run.now }
     ensures { OnOk result (into.new.items ≡ into.old.items
         ++ behind_blanks (step_words names.now run.now)) }
 {
     'steps: for k in 0..run.len() {
-        push_step(into, names, run.get(k))?;
+        write_step(run.get(k), names, into)?;
     }
     Ok(())
 }
 
-/// Appends a word, a place and steps, each behind a blank.
+/// Appends a place and steps, each behind a blank.
+#[tactic(auto, using(crate::proofs::WrittenSteps::derive_along))]
 fn push_run(into: &mut Vec<u8>, names: &Names, place: u16, run: &StepList) -> Result<(), AllocError>
     requires { AreStepsOf names.now run.now }
     ensures { OnOk result (into.new.items ≡ into.old.items
         ++ behind_blanks (decimal place ∷ step_words names.now run.now)) }
 {
     push_place(into, place)?;
-    push_steps(into, names, run)
+    write_steps(run, names, into)
 }
 
 /// Appends two places and steps, each behind a blank.

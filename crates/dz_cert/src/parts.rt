@@ -4,12 +4,13 @@ ghost use Rattle.std.specs.Option.{option_map};
 ghost use Rattle.std.specs.Prelude.{◌≡◌, ◌<◌, ◌≤◌, ◌==◌, length, map, position, IfOk, IfSome};
 ghost use Rattle.dz_cert.specs.LineReading.{limit_at, number_at, place_at, step_at, steps_at};
 ghost use Rattle.dz_cert.specs.LineReading.{which_at, words_of};
-ghost use Rattle.dz_cert.specs.LineTexts.{limit_word, which_word};
+ghost use Rattle.dz_cert.specs.LineTexts.{which_word};
+ghost use Rattle.dz_form.specs.Limits.{limit_word};
 ghost use Rattle.dz_cert.specs.Stops.{Gives};
 ghost use Rattle.dz_form.specs.Reading.{split_once};
 
 use crate::stops::LineStop;
-use dz_form::read_operator;
+use dz_form::{limit_word, read_operator};
 use dz_poly::Limit;
 use dz_step::{Step, StepList, Which};
 use dz_syntax::Names;
@@ -103,21 +104,6 @@ pub(crate) fn which_word(which: Which) -> &'static [u8]
     match which {
         Which::Initial => b"initial",
         Which::Separant => b"separant",
-    }
-}
-
-/// How a limit is written.
-pub(crate) fn limit_word(limit: Limit) -> &'static [u8]
-    ensures { result.now ≡ limit_word limit }
-{
-    match limit {
-        Limit::Order => b"order",
-        Limit::Exponent => b"exponent",
-        Limit::Symbols => b"symbols",
-        Limit::Terms => b"terms",
-        Limit::Polynomials => b"polynomials",
-        Limit::Node => b"node",
-        Limit::Splits => b"splits",
     }
 }
 

@@ -26,15 +26,22 @@ use dz_tree::{Line, System, Tree, chains};
 use itoa::Buffer;
 use std::alloc::{AllocError, Global};
 
+/// Appends a word, a blank and a number.
+pub fn write_numbered(word: &[u8], number: usize, into: &mut Vec<u8>) -> Result<(), AllocError>
+    ensures { OnOk result (into.new.items ≡ into.old.items ++ numbered word.now number) }
+{
+    let mut buffer = Buffer::new();
+    into.extend_from_slice(word)?;
+    into.extend_from_slice(b" ")?;
+    into.extend_from_slice(buffer.format(number).as_bytes())
+}
+
 /// Appends a line of a word and a number.
 fn push_numbered(into: &mut Vec<u8>, word: &[u8], number: usize) -> Result<(), AllocError>
     ensures { OnOk result (into.new.items ≡ into.old.items
         ++ ended_lines (numbered word.now number ∷ [])) }
 {
-    let mut buffer = Buffer::new();
-    into.extend_from_slice(word)?;
-    into.extend_from_slice(b" ")?;
-    into.extend_from_slice(buffer.format(number).as_bytes())?;
+    write_numbered(word, number, into)?;
     into.extend_from_slice(b"\n")
 }
 
@@ -61,13 +68,13 @@ fn push_lines(into: &mut Vec<u8>, names: &Names, lines: &[Line]) -> Result<(), A
     Ok(())
 }
 
-/// Appends the line of a member of a chain.
-fn push_member(
-    into: &mut Vec<u8>,
-    names: &Names,
-    book: &Book,
+/// Appends the line of a polynomial, behind a word and a blank.
+pub fn write_member(
     word: &[u8],
+    book: &Book,
     p: Poly,
+    names: &Names,
+    into: &mut Vec<u8>,
 ) -> Result<(), AllocError>
     requires lives { Lives book.now p }
     requires signature { signature_of names.now ≡ book.now.ranking.signature }
@@ -81,13 +88,13 @@ fn push_member(
     into.extend_from_slice(b"\n")
 }
 
-/// Appends the lines of members of a chain, each behind a word.
-fn push_members(
-    into: &mut Vec<u8>,
-    names: &Names,
-    book: &Book,
+/// Appends the lines of polynomials, each behind a word and a blank.
+pub fn write_members(
     word: &[u8],
+    book: &Book,
     polys: &[Poly],
+    names: &Names,
+    into: &mut Vec<u8>,
 ) -> Result<(), AllocError>
     requires lives { LiveAll book.now polys.now }
     requires signature { signature_of names.now ≡ book.now.ranking.signature }
@@ -96,7 +103,7 @@ fn push_members(
         (map (λ p. polynomial_text names.now p) (polynomials book.now polys.now)))) }
 {
     'members: for p in polys {
-        push_member(into, names, book, word, *p)?;
+        write_member(word, book, *p, names, into)?;
     }
     Ok(())
 }
@@ -115,8 +122,8 @@ fn push_section(
         (section_lines number (canonical_texts names.now (state_in book.now chain.now)))) }
 {
     push_numbered(into, b"chain", number)?;
-    push_members(into, names, book, b"equation", chain.equations())?;
-    push_members(into, names, book, b"inequation", chain.inequations())?;
+    write_members(b"equation", book, chain.equations(), names, into)?;
+    write_members(b"inequation", book, chain.inequations(), names, into)?;
     Ok(())
 }
 
@@ -138,9 +145,10 @@ fn push_sections(
     Ok(())
 }
 
-/// The document of a tree, with the canonical texts of these states for its chains.
+/// The document of a tree, with the canonical texts of these states for its chains, in their order.
+/// Whoever has the states of the chains need not walk the tree for them.
 #[tactic(auto, unfolding(crate::specs::Documents::document_lines))]
-fn document_with(
+pub fn write_document_with(
     alloc: Global,
     book: &Book,
     names: &Names,
@@ -183,7 +191,7 @@ fn document_from(
     ensures kept { IsKept book.old book.new }
 {
     let states = chains(alloc, book, system, tree)?;
-    document_with(alloc, book, names, tree, &states)
+    write_document_with(alloc, book, names, tree, &states)
 }
 
 /// The document of a certified tree for a system: its lines, and the canonical texts of the states

@@ -4,3 +4,4 @@ pub mod Steps
 pub mod Writing
 pub mod Reading
 pub mod PolynomialReading
+pub mod Limits

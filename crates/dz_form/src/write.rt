@@ -85,9 +85,9 @@ fn push_brackets(into: &mut Vec<u8>, names: &Names, operator: Operator) -> Resul
     into.extend_from_slice(b"]")
 }
 
-/// Appends the text of a symbol.
+/// Appends the canonical text of a symbol. On a refusal `into` may have a part of it.
 #[tactic(auto, unfolding(crate::specs::Texts::symbol_text))]
-fn push_symbol(into: &mut Vec<u8>, names: &Names, symbol: Symbol) -> Result<(), AllocError>
+pub fn push_symbol(into: &mut Vec<u8>, names: &Names, symbol: Symbol) -> Result<(), AllocError>
     requires { BelongsTo (signature_of names.now) symbol }
     ensures { OnOk result (into.new.items ≡ into.old.items ++ symbol_text names.now symbol) }
 {

@@ -9,9 +9,11 @@ use Rattle.dz_rank.specs.Rankings.{ranking_cmp}
 use Rattle.dz_terms.specs.Ranked.{symbol_rate}
 use Rattle.dz_algebra.specs.Norm.{norm}
 use Rattle.dz_tree.specs.Chain.{chain_rule, evidence_weight}
-use Rattle.dz_series.specs.Examples.{JetExamples, PairExamples, SeriesExamples}
+use Rattle.dz_series.specs.Examples.{JetExamples, PairExamples, ReportExamples, SeriesExamples}
 use Rattle.dz_form.specs.Texts.{symbol_text}
+use Rattle.dz_series.specs.Orderliness.{is_orderly}
 use Rattle.dz_series.specs.Series.{series_answer}
+use Rattle.dz_series.specs.SeriesReports.{series_report}
 use Rattle.dz_series.specs.Jets.{value_answer, derivatives_to, jet_order, jet_answer}
 
 pub jet_examples : JetExamples
@@ -24,4 +26,8 @@ pair_examples = record { is_chain = refl; gradient_jet = refl; tied_jet = refl }
 
 pub series_examples : SeriesExamples
 unfolding digits gcd symbol_text series_answer
-series_examples = record { conic_series = refl; half_series = refl; plane_series = refl; zero_series = refl }
+series_examples = record { conic_series = refl; half_series = refl; plane_series = refl; zero_series = refl; wide_series = refl }
+
+pub report_examples : ReportExamples
+unfolding polynomial_derivative digits gcd polynomial_one support fits refusal operation ranking_cmp symbol_rate symbol_text value_answer derivatives_to jet_order jet_answer is_orderly series_answer series_report
+report_examples = record { conic_report = refl; not_orderly = refl; lacks = refl; too_much = refl; off = refl; singular = refl; too_wide = refl }

@@ -1,6 +1,6 @@
 -- Members of filtered lists.
 use Rattle.std.specs.List.{filter, find}
-use Rattle.std.proofs.Common.{◌≡◌, inl, inr, ◌∙◌, Bool, true, false, not, ◌||◌, cond, List, [], ◌∷◌, Some, None, sym, refl, ap}
+use Rattle.std.proofs.Common.{◌≡◌, inl, inr, ◌∙◌, suc, Bool, true, false, not, ◌||◌, cond, All, List, [], ◌∷◌, Some, None, sym, refl, ap, subst, arith}
 use Rattle.dz_rank.specs.Rankings.{RankingValue}
 use Rattle.dz_rank.specs.declared.symbols.Symbol.{Symbol}
 use Rattle.dz_terms.specs.Ranked.{symbols_under}
@@ -61,3 +61,12 @@ module _ (r : RankingValue) where
       either_true : (b : Bool) → is_among (symbols_under r) ts s ≡ true → (b || is_among (symbols_under r) ts s) ≡ true
       either_true true e = refl
       either_true false e = e
+
+-- a member that is found has what all have
+pub found_is : {A : Type 0} (P : A → Type 0) (test : A → Bool) (xs : List A) (x : A) → All P xs → find test xs ≡ Some x → P x
+found_is P test [] x h e = absurd cc
+found_is P test (y ∷ xs) x h e = by_test (test y) e (λ f. found_is P test xs x (λ i d l. h (suc i) d (omega arith)) f)
+  where
+    by_test : (b : Bool) → cond b (Some y) (find test xs) ≡ Some x → (find test xs ≡ Some x → P x) → P x
+    by_test true e more = let same : y ≡ x = cc in subst P same (h 0 y (omega arith))
+    by_test false e more = more e

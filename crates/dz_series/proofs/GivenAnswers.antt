@@ -13,7 +13,8 @@ use Rattle.dz_diff.specs.State.{State}
 use Rattle.dz_step.proofs.Searches.{drop_here}
 use Rattle.dz_series.specs.declared.faults.JetFault.{JetFault}
 use Rattle.dz_series.specs.declared.faults.JetFault.TheVariants as faults
-use Rattle.dz_series.specs.Jets.{AreDistinct, Values, derivatives_to, given_to, is_among, is_needed, test_given, unless}
+use Rattle.dz_syntax.specs.Systems.{AreDistinct}
+use Rattle.dz_series.specs.Jets.{Values, derivatives_to, given_to, is_among, is_needed, test_given, unless}
 use Rattle.dz_series.specs.Stops.{IsFault}
 use Rattle.dz_series.specs.Tables.{HaveOneValue, IsRising, first_missing, first_not_free}
 use Rattle.dz_series.proofs.FoldSteps.{any_default}

@@ -40,3 +40,8 @@ pub mod GivenAnswers
 pub mod SeparantValues
 pub mod JetWhole
 pub mod FixingSteps
+pub mod OrderlyTests
+pub mod SeriesTexts
+pub mod JetBelongs
+pub mod SeriesCoefficients
+pub mod ReportAnswers

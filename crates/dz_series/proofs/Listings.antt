@@ -22,7 +22,7 @@ range_more a (suc n) =
     ap (range_with_len a) (let e : suc n + 1 ≡ suc (n + 1) = omega arith in e) ∙ ap (λ ks. a ∷ ks) (range_more (a + 1) n)
     ∙ ap (λ b. a ∷ (range_with_len (a + 1) n ++ b ∷ [])) (let e : (a + 1) + n ≡ a + suc n = omega arith in e)
 
-pub flat_more : (f : ℕ → List Symbol) (k : ℕ) → flat_map f (range_with_len 0 (k + 1)) ≡ flat_map f (range_with_len 0 k) ++ f k
+pub flat_more : {A : Type 0} (f : ℕ → List A) (k : ℕ) → flat_map f (range_with_len 0 (k + 1)) ≡ flat_map f (range_with_len 0 k) ++ f k
 flat_more f k =
     ap (flat_map f) (range_more 0 k ∙ ap (λ b. range_with_len 0 k ++ b ∷ []) (let e : 0 + k ≡ k = omega arith in e))
     ∙ flat_map-append f (range_with_len 0 k) (k ∷ []) ∙ ap (λ zs. flat_map f (range_with_len 0 k) ++ zs) (append-nil (f k))
@@ -83,8 +83,8 @@ last_listed n u m ks size few z =
     ap (λ ls. Derivative u (record { counts = ls }) ∷ []) (sym (filled n 4 ks size few z) ∙ ap (λ ls. ls ++ replicate (4 - n) 0) (sym (append-nil (take n ks))))
     ∙ ap (λ q. derivatives_from n u (take n ks) q m) (let e : 0 ≡ n - n = omega arith in e)
 
--- one more derivative with its followers
-pub listed_more : (f : ℕ → List Symbol) (old now new part : List Symbol) (k : ℕ) → now ≡ old ++ flat_map f (range_with_len 0 k) → new ≡ now ++ part → part ≡ f k → new ≡ old ++ flat_map f (range_with_len 0 (k + 1))
+-- one more list behind others
+pub listed_more : {A : Type 0} (f : ℕ → List A) (old now new part : List A) (k : ℕ) → now ≡ old ++ flat_map f (range_with_len 0 k) → new ≡ now ++ part → part ≡ f k → new ≡ old ++ flat_map f (range_with_len 0 (k + 1))
 listed_more f old now new part k before after is =
     after ∙ ap₂ (λ xs ys. xs ++ ys) before is ∙ append_assoc old (flat_map f (range_with_len 0 k)) (f k) ∙ ap (λ zs. old ++ zs) (sym (flat_more f k))
 

@@ -1,6 +1,6 @@
 -- Jets of chains: values of the derivatives up to a total order, as a chain fixes them (this project's form).
-use Rattle.std.specs.Prelude.{◌≢◌, ⊤, ℕ, zero, suc, ◌+◌, ◌-◌, max, Bool, true, false, not, ◌||◌, cond, List, [], ◌∷◌, ◌++◌, map, pos, Option, Some, None, Result, Ok, Err}
-use Rattle.std.specs.List.{AllPairs, filter, find, range_with_len}
+use Rattle.std.specs.Prelude.{⊤, ℕ, zero, suc, ◌+◌, ◌-◌, max, Bool, true, false, not, ◌||◌, cond, List, [], ◌∷◌, ◌++◌, map, pos, Option, Some, None, Result, Ok, Err}
+use Rattle.std.specs.List.{filter, find, range_with_len}
 use Rattle.std.specs.Prelude.{replicate, flat_map}
 use Rattle.std.specs.declared.cmp.Ordering.{Ordering}
 use Rattle.std.specs.Option.{is_none, option_and_then}
@@ -43,10 +43,6 @@ separant_refused j l (refused_large limit) = faults.Large l limit
 -- symbols with their values
 abbrev pub Values : Type 0
 Values = List (Symbol × Fraction)
-
--- no symbol stands twice
-abbrev pub AreDistinct : Values → Type 0
-AreDistinct known = AllPairs (λ p q. p.0 ≢ q.0) known
 
 -- the value that a list gives a symbol
 abbrev pub given_to : Symbols Symbol → Values → Symbol → Option Fraction

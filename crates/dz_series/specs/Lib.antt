@@ -11,3 +11,10 @@ pub mod Tables
 pub mod Fixing
 pub mod Making
 pub mod Listing
+pub mod Orderliness
+pub mod SeriesReports
+pub mod Writable
+pub mod FaultSymbols
+pub mod Writing
+pub mod SeriesStops
+pub mod SeriesEnds

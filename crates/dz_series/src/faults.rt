@@ -1,4 +1,4 @@
-//! Why there is no jet.
+//! Why there is no jet, or no text of one.
 
 use dz_int::Frac;
 use dz_poly::Limit;
@@ -60,5 +60,36 @@ impl<T: Drop> From<AllocFailed<T>> for JetFault {
 
     fn from(_error: AllocFailed<T>) -> JetFault {
         JetFault::Memory
+    }
+}
+
+/// Why a jet has no text.
+#[derive(Clone, Copy, Debug, PartialEq, Eq)]
+pub enum SeriesFault {
+    Memory,
+    /// The coefficient of a derivative does not fit: its value, divided by the factorials of its
+    /// exponents.
+    Wide(Symbol),
+}
+
+impl From<AllocError> for SeriesFault {
+    ghost use Rattle.std.specs.Prelude.{◌≡◌};
+    ghost use Rattle.dz_series.specs.declared.faults.SeriesFault.TheVariants.{Memory};
+
+    ghost from_gives = { λ _ e. e ≡ Memory };
+
+    fn from(_error: AllocError) -> SeriesFault {
+        SeriesFault::Memory
+    }
+}
+
+impl<T: Drop> From<AllocFailed<T>> for SeriesFault {
+    ghost use Rattle.std.specs.Prelude.{◌≡◌};
+    ghost use Rattle.dz_series.specs.declared.faults.SeriesFault.TheVariants.{Memory};
+
+    ghost from_gives = { λ _ e. e ≡ Memory };
+
+    fn from(_error: AllocFailed<T>) -> SeriesFault {
+        SeriesFault::Memory
     }
 }

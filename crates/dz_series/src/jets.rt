@@ -39,6 +39,13 @@ impl Jet {
         self.order
     }
 
+    /// The values with their symbols.
+    pub(crate) fn values(&self) -> &[(Symbol, Frac)]
+        ensures { result.now ≡ self.now.values }
+    {
+        self.values.as_slice()
+    }
+
     /// The number of values.
     pub fn len(&self) -> usize
         ensures { result ≡ length self.now.values }

@@ -22,7 +22,7 @@ pub(crate) struct Fixing {
 }
 
 /// Whether an operator takes a derivation.
-fn is_proper(operator: Operator) -> bool
+pub(crate) fn is_proper(operator: Operator) -> bool
     ensures { result ≡ is_proper operator }
 {
     let [i, j, k, l] = operator.counts;

@@ -10,10 +10,13 @@ ghost use Rattle.dz_diff.specs.States.{StandsIn, state_in};
 ghost use Rattle.dz_series.specs.declared.faults.JetFault.TheVariants.{NotOrderly};
 ghost use Rattle.dz_tree.specs.Chain.{Evidence};
 ghost use Rattle.dz_series.specs.Clashes.{AgreesAt, IsChain};
+ghost use Rattle.dz_series.specs.FaultSymbols.{IsFaultOver};
 ghost use Rattle.dz_series.specs.Fractions.{fraction_operations};
-ghost use Rattle.dz_series.specs.Jets.{AreDistinct, jet_answer, jet_order, value_in};
+ghost use Rattle.dz_syntax.specs.Systems.{AreDistinct};
+ghost use Rattle.dz_series.specs.Jets.{jet_answer, jet_order, value_in};
 ghost use Rattle.dz_series.specs.Laws.{AreReduced};
 ghost use Rattle.dz_series.specs.Stops.{IsFault};
+ghost use Rattle.dz_series.specs.Writable.{IsWritable};
 
 use crate::faults::JetFault;
 use crate::fixing::add_values;
@@ -97,6 +100,10 @@ pub fn jet(
         book.old.ranking (state_in book.old chain.now) values.now order)) }
     ensures not_orderly { (IsOrderly book.old.ranking → ⊥) → result ≡ Err NotOrderly }
 
+    // The text of a jet may be written, and the symbol that a fault names is one of the ranking.
+    ensures writable { IfOk result (λ jet. IsWritable book.old.ranking.signature jet.values) }
+    ensures over { IfErr result (λ e. IsFaultOver book.old.ranking.signature e) }
+
     // Of a chain with evidence all derivatives of all equations have value zero at the jet.
     ensures agrees { (evidence : List Evidence)
         → IsChain book.old.ranking (state_in book.old chain.now) evidence
@@ -111,6 +118,9 @@ pub fn jet(
         return Err(JetFault::NotOrderly);
     }
     read(values);
+    // A ranking has at most four independents, and the polynomials of a book are over it.
+    let _ = book.ranking().signature();
+    book.opened();
     let mark = book.mark();
     let result = jet_in_book(alloc, book, chain, values, order);
     book.restore(mark);

@@ -3,7 +3,8 @@
 use crate::alone::Alone;
 use crate::judging::{Judgement, judge};
 use crate::working::Working;
-use dz_case::{CaseStop, cases_of, limit_name, rule_name};
+use dz_case::{CaseStop, cases_of, rule_name};
+use dz_form::limit_word;
 use dz_tree::Verdict;
 use itoa::Buffer;
 use std::alloc::{AllocError, Global};
@@ -42,7 +43,7 @@ fn write_alone(into: &mut Vec<u8>, alone: Alone) -> Result<(), AllocError> {
         Alone::Wide => into.extend_from_slice(b"; alone wide"),
         Alone::Large(limit) => {
             into.extend_from_slice(b"; alone large ")?;
-            into.extend_from_slice(limit_name(limit))
+            into.extend_from_slice(limit_word(limit))
         }
         Alone::Broken(rule) => {
             into.extend_from_slice(b"; alone ")?;

@@ -15,5 +15,5 @@ returns-clause-document c =
     let tree = c.args.tree.now in
     let g = setting_of old.ranking in
     let system = system_in old c.args.system.now in
-    if_ok (λ text. text.items ≡ document_text names tree (map (λ s. canonical_texts names (state_in new s)) c.deref.result.now)) (λ text. text.items ≡ document_of g names system tree) c.document_with.result
-    (λ text e. e ∙ states_document g names system tree (state_in new) c.deref.result.now (rw c.deref.ensures.value c.in_ok-states.ensures.chains)) c.document_with.ensures
+    if_ok (λ text. text.items ≡ document_text names tree (map (λ s. canonical_texts names (state_in new s)) c.deref.result.now)) (λ text. text.items ≡ document_of g names system tree) c.write_document_with.result
+    (λ text e. e ∙ states_document g names system tree (state_in new) c.deref.result.now (rw c.deref.ensures.value c.in_ok-states.ensures.chains)) c.write_document_with.ensures
