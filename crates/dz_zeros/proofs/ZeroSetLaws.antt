@@ -1,5 +1,6 @@
 -- The theorem of zero sets, over every domain and at every point that fits.
-use Rattle.std.proofs.Common.{◌≡◌, ◌≢◌, ◌⊎◌, inl, inr, ◌↔◌, ℕ, zero, suc, ◌<◌, Bool, true, false, not, List, [], ◌∷◌, ℤ, pos, negsuc, refl, sym, ap, ◌∙◌, arith, Result, Ok, Err, IsOk}
+use Rattle.std.proofs.Common.{◌≡◌, ◌≢◌, ◌⊎◌, inl, inr, ◌↔◌, ℕ, zero, suc, ◌<◌, Bool, true, false, not, cond, map, List, [], ◌∷◌, ℤ, pos, negsuc, refl, sym, ap, ◌∙◌, arith, Result, Ok, Err, IsOk}
+use Rattle.std.specs.Prelude.{filter}
 use Rattle.dz_algebra.specs.Derivation.{derivative_contributions, polynomial_derivative}
 use Rattle.dz_algebra.specs.Domain.{Operations, DomainLaws}
 use Rattle.dz_algebra.specs.Monomial.{Monomial, MonomialIn}
@@ -32,17 +33,18 @@ use Rattle.dz_step.specs.Run.{run}
 use Rattle.dz_tree.specs.declared.Rule.{Rule}
 use Rattle.dz_tree.specs.Certified.{IsCertified}
 use Rattle.dz_tree.specs.Chains.{IsChain}
-use Rattle.dz_tree.specs.Walk.{Tree, End, all_chains, chains_of, ends_of, ends_in}
+use Rattle.dz_tree.specs.Walk.{Tree, End, all_chains, chains_of, ends_of, ends_in, is_chain_end}
 use Rattle.dz_tree.proofs.CertifiedChains.{chains_are}
 use Rattle.dz_tree.proofs.Certifying.{answer_certified}
 use Rattle.dz_zeros.specs.Laws.{ZeroSets}
+use Rattle.dz_zeros.specs.Runs.{RunsToZero}
 use Rattle.dz_zeros.specs.Solves.{HasValueZero, IsRegularAt, Solves, SolvesChain, SolvesState}
 use Rattle.dz_zeros.proofs.Meaning.{Meaning, Vanishes, Differs}
 use Rattle.dz_zeros.proofs.Steps.{run_alike}
-use Rattle.dz_zeros.proofs.Actions.{GoodState, closed_has_none, good_equations, serves_free}
+use Rattle.dz_zeros.proofs.Actions.{GoodState, Solution, closed_has_none, good_equations, serves_free}
 use Rattle.dz_zeros.proofs.Roots.{tree_same}
 use Rattle.dz_zeros.proofs.RegularZeros.{Regular, RegularZero, chain_regular, ends_regular}
-use Rattle.dz_zeros.proofs.Walks.{SolvedEnd}
+use Rattle.dz_zeros.proofs.Walks.{GoodEnd, SolvedEnd}
 
 -- ---- symbols of a signature
 module _ (r : RankingValue) where
@@ -206,13 +208,42 @@ module _ (r : RankingValue) {E : Type 0} {o : Operations E} (laws : DomainLaws o
   closed_solutions s over e h =
       closed_has_none meaning_of s e (all_good r s.equations over.equations_over, all_good r s.inequations over.inequations_over) (solves_from s.equations s.inequations h)
 
+  -- a run to zero by a state tells of its solutions
+  run_vanishes : (s : State) (f : Polynomial Symbol) → GoodState meaning_of s → IsOver r f → RunsToZero (setting_of r) s f → Solution meaning_of s → HasValueZero o c f
+  unfolding meaning_of
+  run_vanishes s f good over runs h =
+      let k = run_alike meaning_of s Free f runs.steps (record { end = []; count = runs.count }) runs.is (good_equations meaning_of s good) (good_over r f over) in
+      to_point f ((k.0 (serves_free meaning_of s h)).0 refl)
+
   run_solutions : (s : State) (f : Polynomial Symbol) (steps : List Step) (count : ℕ) → AreOver r s.equations s.inequations → IsOver r f
       → run (setting_of r) s Free f steps ≡ Ok (record { end = []; count = count }) → SolvesState o c s → HasValueZero o c f
-  unfolding meaning_of
   run_solutions s f steps count over of_f e h =
-      let good : GoodState meaning_of s = (all_good r s.equations over.equations_over, all_good r s.inequations over.inequations_over) in
-      let k = run_alike meaning_of s Free f steps (record { end = []; count = count }) e (good_equations meaning_of s good) (good_over r f of_f) in
-      to_point f ((k.0 (serves_free meaning_of s (solves_from s.equations s.inequations h))).0 refl)
+      run_vanishes s f (all_good r s.equations over.equations_over, all_good r s.inequations over.inequations_over) of_f (record { steps = steps; count = count; is = e })
+      (solves_from s.equations s.inequations h)
+
+  -- where all ends are chains, runs to zero by all of these tell of the solutions at the ends
+  ends_vanish : (f : Polynomial Symbol) → IsOver r f → (ends : List End) → all_chains ends ≡ true → AllOf (GoodEnd meaning_of) ends
+      → AllOf (λ s. RunsToZero (setting_of r) s f) (chains_of ends) → SomeOf (SolvedEnd meaning_of) ends → HasValueZero o c f
+  ends_vanish f over [] all good runs h = absurd h
+  ends_vanish f over (e ∷ ends) all good runs h =
+      by_test (is_chain_end e) (both (is_chain_end e) (all_chains ends) all).0 runs (ends_vanish f over ends (both (is_chain_end e) (all_chains ends) all).1 good.1)
+    where
+      by_test : (b : Bool) → b ≡ true → AllOf (λ s. RunsToZero (setting_of r) s f) (map (λ (x : End). x.state) (cond b (e ∷ filter is_chain_end ends) (filter is_chain_end ends)))
+          → (AllOf (λ s. RunsToZero (setting_of r) s f) (chains_of ends) → SomeOf (SolvedEnd meaning_of) ends → HasValueZero o c f) → HasValueZero o c f
+      by_test true k runs ih = elim h [ inl at ↦ run_vanishes e.state f good.0 over runs.0 at | inr at ↦ ih runs.1 at ]
+      by_test false k runs ih = cc
+
+  vanishing_solutions : (system : System) (tree : Tree) (f : Polynomial Symbol) → AreOver r system.equations system.inequations → IsOver r f → IsCertified (setting_of r) system tree
+      → all_chains (ends_in (ends_of (setting_of r) system tree)) ≡ true → AllOf (λ s. RunsToZero (setting_of r) s f) (chains_of (ends_in (ends_of (setting_of r) system tree)))
+      → Solves o c system.equations system.inequations → HasValueZero o c f
+  vanishing_solutions system tree f over of_f certified = by_answer (ends_of (setting_of r) system tree) refl (answer_certified (setting_of r) system tree certified)
+    where
+      by_answer : (q : Result (List End) (ℕ × Rule)) → ends_of (setting_of r) system tree ≡ q → IsOk q → all_chains (ends_in q) ≡ true
+          → AllOf (λ s. RunsToZero (setting_of r) s f) (chains_of (ends_in q)) → Solves o c system.equations system.inequations → HasValueZero o c f
+      by_answer (Ok ends) e ok all runs h =
+          let k = tree_same meaning_of system tree ends e (all_good r system.equations over.equations_over, all_good r system.inequations over.inequations_over) in
+          ends_vanish f of_f ends all k.2 runs (k.0 (solves_from system.equations system.inequations h))
+      by_answer (Err x) e ok all runs h = cc
 
 -- the laws
 pub zero_sets : {E : Type 0} (r : RankingValue) (o : Operations E) → DomainLaws o → (c : Coordinates E) → IsPoint o c → FitsSignature r.signature c → ZeroSets r o c
@@ -220,6 +251,7 @@ zero_sets r o laws c point fits = record {
   of_tree = λ system tree over h. tree_solutions r laws point fits system tree over (answer_certified (setting_of r) system tree h);
   of_chain = chain_solutions r laws point fits;
   of_complete = complete_solutions r laws point fits;
+  of_vanishing = vanishing_solutions r laws point fits;
   of_closed = closed_solutions r laws point fits;
   of_run = run_solutions r laws point fits;
 }

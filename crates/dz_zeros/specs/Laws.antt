@@ -6,7 +6,7 @@ use Rattle.dz_rank.specs.Rankings.{RankingValue}
 use Rattle.dz_rank.specs.declared.symbols.Symbol.{Symbol}
 use Rattle.dz_terms.specs.Ranked.{symbols_under}
 use Rattle.dz_domain.specs.Point.{Coordinates}
-use Rattle.dz_diff.specs.Lists.{SomeOf}
+use Rattle.dz_diff.specs.Lists.{AllOf, SomeOf}
 use Rattle.dz_diff.specs.Operations.{setting_of}
 use Rattle.dz_diff.specs.State.{State}
 use Rattle.dz_tree.specs.Root.{System, is_closed}
@@ -17,6 +17,7 @@ use Rattle.dz_tree.specs.Certified.{IsCertified}
 use Rattle.dz_tree.specs.Chains.{IsChain}
 use Rattle.dz_tree.specs.Walk.{Tree, all_chains, chains_of, ends_of, ends_in}
 use Rattle.dz_diff.specs.Over.{AreOver, IsOver}
+use Rattle.dz_zeros.specs.Runs.{RunsToZero}
 use Rattle.dz_zeros.specs.Solves.{HasValueZero, Solves, SolvesChain, SolvesState}
 
 -- what holds at a point that fits a ranking's signature
@@ -33,6 +34,12 @@ pub record ZeroSets {E : Type 0} (r : RankingValue) (o : Operations E) (c : Coor
       → IsCertified (setting_of r) system tree → all_chains (ends_in (ends_of (setting_of r) system tree)) ≡ true
       → Solves o c system.equations system.inequations
       ↔ SomeOf (SolvesChain (symbols_under r) o c) (chains_of (ends_in (ends_of (setting_of r) system tree)))
+  -- a polynomial with a free run to zero by each chain of a complete certified tree for a system has value zero where the point
+  -- solves the system
+  pub of_vanishing : (system : System) (tree : Tree) (f : Polynomial Symbol) → AreOver r system.equations system.inequations → IsOver r f
+      → IsCertified (setting_of r) system tree → all_chains (ends_in (ends_of (setting_of r) system tree)) ≡ true
+      → AllOf (λ s. RunsToZero (setting_of r) s f) (chains_of (ends_in (ends_of (setting_of r) system tree)))
+      → Solves o c system.equations system.inequations → HasValueZero o c f
   -- it solves no closed state
   pub of_closed : (s : State) → AreOver r s.equations s.inequations → is_closed (symbols_under r) s ≡ true → SolvesState o c s → ⊥
   -- a polynomial with a free run to zero by a state has value zero where the point solves the state

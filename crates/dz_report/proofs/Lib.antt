@@ -1,0 +1,4 @@
+pub mod Reported
+pub mod RunReports
+pub mod VanishingLines
+pub mod PreparedReports

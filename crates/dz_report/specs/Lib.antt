@@ -1,0 +1,5 @@
+pub mod Reports
+pub mod Reductions
+pub mod Preparations
+pub mod Laws
+pub mod Writing

@@ -1,0 +1,6 @@
+pub mod Draws
+pub mod Sample
+pub mod Equations
+pub mod Ranking
+pub mod System
+pub mod Summary
