@@ -19,7 +19,7 @@ fn main(rt: HostRuntime) -> ExitCode {
         Ok(words) => words,
         // Words that are not UTF-8 are none of the program's, and so are no words at all.
         Err(error) if error.kind() == ErrorKind::InvalidData => Vec::new(rt.alloc()),
-        Err(_) => return ExitCode::from(tell(&mut err, Ending::NoMemory)),
+        Err(_) => return ExitCode::from(tell(&mut err, Ending::NoMemory, b"")),
     };
     let mut input = StdSource::new(rt.stdin());
     let mut out = StdSink::new(rt.stdout());

@@ -3,7 +3,19 @@
 use dz_case::{CaseStop, number, split_at_first};
 use std::alloc::{AllocError, Global};
 
-/// The words of a run, and what its source and its output are like.
+/// The point that a run is told.
+#[derive(Clone, Copy, Debug, PartialEq, Eq)]
+pub(crate) enum At {
+    /// It has neither independents nor unknowns.
+    Nothing,
+    /// Over polynomials in x: the first unknown is the square of the independent x.
+    Square,
+    /// Over polynomials in x and one more variable: the first unknown is the square of x and that
+    /// variable, which no derivation by x moves.
+    SquareAndConstant,
+}
+
+/// The words of a run, what its source and its outputs are like, and the point that it is told.
 #[derive(Drop)]
 pub(crate) struct Case<'a> {
     pub(crate) words: Vec<&'a [u8]>,
@@ -13,7 +25,8 @@ pub(crate) struct Case<'a> {
     pub(crate) room: u32,
     pub(crate) takes: u32,
     pub(crate) failing_writes: Vec<u32>,
-    pub(crate) squares: bool,
+    pub(crate) failing_messages: Vec<u32>,
+    pub(crate) at: At,
 }
 
 impl<'a> Case<'a> {
@@ -27,7 +40,8 @@ impl<'a> Case<'a> {
             room: 1_048_576,
             takes: 4096,
             failing_writes: Vec::new(alloc),
-            squares: false,
+            failing_messages: Vec::new(alloc),
+            at: At::Nothing,
         }
     }
 }
@@ -68,6 +82,20 @@ fn set(case: &mut Case<'_>, name: &[u8], text: &[u8]) -> Result<(), CaseStop> {
         case.takes = value;
     } else if name == b"writes".as_slice() {
         case.failing_writes.push(value)?;
+    } else if name == b"messages".as_slice() {
+        case.failing_messages.push(value)?;
+    } else {
+        return Err(CaseStop::NoCase);
+    }
+    Ok(())
+}
+
+/// Takes the name of a point.
+fn place(case: &mut Case<'_>, name: &[u8]) -> Result<(), CaseStop> {
+    if name == b"square".as_slice() {
+        case.at = At::Square;
+    } else if name == b"square and constant".as_slice() {
+        case.at = At::SquareAndConstant;
     } else {
         return Err(CaseStop::NoCase);
     }
@@ -87,12 +115,11 @@ fn take<'a>(case: &mut Case<'a>, line: &'a [u8]) -> Result<(), CaseStop> {
         [b'+', text @ ..] => repeat(text, b"\n", &mut case.bytes),
         _ => {
             let (name, text) = split_at_first(line, b' ');
-            if line == b"squares".as_slice() {
-                case.squares = true;
-                return Ok(());
-            }
             if name == b"words".as_slice() {
                 return Ok(read_words(text, &mut case.words)?);
+            }
+            if name == b"at".as_slice() {
+                return place(case, text);
             }
             set(case, name, text)
         }

@@ -9,7 +9,10 @@
 //! - `room N`: the output takes at most N bytes in all (1,048,576 if left out);
 //! - `takes N`: a write takes at most N bytes (4,096 if left out);
 //! - `writes N`: the write with this number fails, counted from 1;
-//! - `squares`: the run is told a point at which the first unknown is the square of the independent.
+//! - `messages N`: the write on the error output with this number fails;
+//! - `at square`: the run is told a point over polynomials in x, at which the first unknown is the
+//!   square of the independent; `at square and constant`: one over polynomials in x and one more
+//!   variable, at which that is the square and the variable.
 //!
 //! Of the bytes, `|TEXT` is a line, `\TEXT` is a text without its end, and `+N TEXT` and `*N TEXT` are
 //! the same N times.

@@ -1,6 +1,6 @@
 //! One run of the program over objects in memory.
 
-use crate::cases::Case;
+use crate::cases::{At, Case};
 use dz_case::CaseStop;
 use dz_domain::{Adjoin, Coefficients, Domain, Point, Whole};
 use dz_outside::{MemSink, MemSource};
@@ -41,7 +41,7 @@ fn run_at<D: Domain>(alloc: Global, case: Case<'_>, at: &Point<D>) -> Result<Ran
         case.takes as usize,
         case.failing_writes,
     )?;
-    let mut err = MemSink::new(alloc, MESSAGE_ROOM, MESSAGE_ROOM, Vec::new(alloc))?;
+    let mut err = MemSink::new(alloc, MESSAGE_ROOM, MESSAGE_ROOM, case.failing_messages)?;
     let status = blad_run(alloc, &words, &mut input, &mut out, &mut err, at);
     Ok(Ran {
         status,
@@ -63,12 +63,27 @@ fn square(alloc: Global) -> Result<Point<Adjoin<Whole>>, AllocError> {
     Ok(at)
 }
 
+/// The point over polynomials in x and y at which the first independent is x, and the first unknown
+/// the square of x, and y.
+fn square_and_constant(alloc: Global) -> Result<Point<Adjoin<Adjoin<Whole>>>, AllocError> {
+    // The coefficients are polynomials in x, and the last variable is y.
+    let x = Coefficients::new(vec![in alloc; Coefficients::new(vec![in alloc; 0i128, 1]?)]?);
+    let square = Coefficients::new(vec![in alloc; 0i128, 0, 1]?);
+    let one = Coefficients::new(vec![in alloc; 1i128]?);
+    let u = Coefficients::new(vec![in alloc; square, one]?);
+    let at = Point::new(
+        Adjoin::new(Adjoin::new(Whole::new())),
+        vec![in alloc; x]?,
+        vec![in alloc; u]?,
+    );
+    Ok(at)
+}
+
 /// Runs the program on a case.
 pub(crate) fn run(alloc: Global, case: Case<'_>) -> Result<Ran, CaseStop> {
-    if case.squares {
-        let at = square(alloc)?;
-        return run_at(alloc, case, &at);
+    match case.at {
+        At::Nothing => run_at(alloc, case, &Point::empty(alloc, Whole::new())),
+        At::Square => run_at(alloc, case, &square(alloc)?),
+        At::SquareAndConstant => run_at(alloc, case, &square_and_constant(alloc)?),
     }
-    let at = Point::empty(alloc, Whole::new());
-    run_at(alloc, case, &at)
 }

@@ -15,7 +15,7 @@ use Rattle.dz_tree.specs.declared.Rule.{Rule}
 use Rattle.dz_tree.proofs.TreeEntries.{lines_of_entries}
 use Rattle.dz_run.specs.declared.ending.Ending.{Ending}
 use Rattle.dz_run.specs.declared.ending.Ending.TheVariants.{Done}
-use Rattle.dz_run.specs.Answer.{lines_ending, open_ending}
+use Rattle.dz_run.specs.Decomposed.{lines_ending, open_ending}
 
 -- ---- lines without an open end
 -- the first is none, and the others have none

@@ -5,7 +5,7 @@ use Rattle.dz_cert.specs.declared.reading.CertFault.{CertFault}
 use Rattle.dz_cert.specs.declared.reading.CertFault.TheVariants as faults
 use Rattle.dz_syntax.specs.Faults.{text_of}
 use Rattle.dz_run.specs.declared.ending.Ending.{Ending}
-use Rattle.dz_run.specs.declared.ending.Ending.TheVariants.{Done, Rejected, NotWritten, Syntax, Document, Wide, Spent, Large, ReadFault, WriteFault, WriteStuck, NoMemory, TooLong, NotBuilt}
+use Rattle.dz_run.specs.declared.ending.Ending.TheVariants.{Done, Rejected, NotWritten, Syntax, Document, Wide, Spent, Large, ReadFault, WriteFault, WriteStuck, NoMemory, Point, TooLong}
 
 -- the status with which the program ends
 abbrev pub status_of : Ending → ℕ
@@ -21,8 +21,8 @@ status_of ReadFault = 7
 status_of WriteFault = 8
 status_of WriteStuck = 8
 status_of NoMemory = 9
+status_of Point = 10
 status_of TooLong = 11
-status_of NotBuilt = 12
 
 -- the line for the first fault of a document
 abbrev pub document_message : CertFault → List ℕ
@@ -31,22 +31,22 @@ document_message (faults.BadLine n) = codes "blad: document: line " ++ decimal n
 document_message faults.EndsEarly = codes "blad: document: ends early\n"
 document_message faults.BytesAfter = codes "blad: document: bytes after the end\n"
 
--- the line on the error output, or nothing
-abbrev pub message_of : Ending → List ℕ
-message_of Done = []
-message_of Rejected = []
-message_of NotWritten = codes "blad: the words are no written form\n"
-message_of (Syntax fault) = codes "blad: syntax: byte " ++ decimal fault.place ++ codes ": " ++ text_of fault.kind ++ codes "\n"
-message_of (Document fault) = document_message fault
-message_of Wide = codes "blad: wide\n"
-message_of Spent = codes "blad: budget spent\n"
-message_of Large = codes "blad: large\n"
-message_of ReadFault = codes "blad: read fault\n"
-message_of WriteFault = codes "blad: write fault\n"
-message_of WriteStuck = codes "blad: write stuck\n"
-message_of NoMemory = codes "blad: no memory\n"
-message_of TooLong = codes "blad: input too long\n"
-message_of NotBuilt = codes "blad: not built yet\n"
+-- The line on the error output, or nothing. That of a point that is refused is the answer's own.
+abbrev pub message_of : Ending → List ℕ → List ℕ
+message_of Done point = []
+message_of Rejected point = []
+message_of NotWritten point = codes "blad: the words are no written form\n"
+message_of (Syntax fault) point = codes "blad: syntax: byte " ++ decimal fault.place ++ codes ": " ++ text_of fault.kind ++ codes "\n"
+message_of (Document fault) point = document_message fault
+message_of Wide point = codes "blad: wide\n"
+message_of Spent point = codes "blad: budget spent\n"
+message_of Large point = codes "blad: large\n"
+message_of ReadFault point = codes "blad: read fault\n"
+message_of WriteFault point = codes "blad: write fault\n"
+message_of WriteStuck point = codes "blad: write stuck\n"
+message_of NoMemory point = codes "blad: no memory\n"
+message_of Point point = point
+message_of TooLong point = codes "blad: input too long\n"
 
 -- an ending at which nothing was to be written on the output
 abbrev pub IsSilent : Ending → Type 0
@@ -57,12 +57,14 @@ IsSilent Spent = ⊥
 IsSilent Large = ⊥
 IsSilent WriteFault = ⊥
 IsSilent WriteStuck = ⊥
+IsSilent Point = ⊥
 IsSilent ending = ⊤
 
 -- its message tells a fault
 abbrev pub HasFault : Ending → Type 0
 HasFault (Syntax fault) = ⊤
 HasFault (Document fault) = ⊤
+HasFault Point = ⊤
 HasFault ending = ⊥
 
 -- its message tells a line

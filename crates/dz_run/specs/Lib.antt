@@ -1,5 +1,11 @@
 pub mod Ending
 pub mod System
 pub mod Answer
+pub mod Decomposed
+pub mod Checked
+pub mod Asked
+pub mod Charted
+pub mod Sampled
+pub mod Verbs
 pub mod Run
 pub mod Headline

@@ -1,5 +1,5 @@
 -- What a run leaves of the input, on the output and on the error output.
-use Rattle.std.specs.Prelude.{◌≡◌, ◌⊎◌, ◌≤◌, ◌+◌, ℕ, true, false, List, length, Result, Ok, Err, ⊤}
+use Rattle.std.specs.Prelude.{◌≡◌, ◌⊎◌, ◌≤◌, ◌+◌, ℕ, Bool, true, false, List, [], length, Result, Ok, Err, ⊤}
 use Rattle.std.specs.declared.option.Option.{Option}
 use Rattle.std.specs.Io.KnownBytes.{Appends, Consumes, IsAtEnd, Keeps}
 use Rattle.dz_outside.specs.Causes.{Rose}
@@ -7,9 +7,10 @@ use Rattle.dz_outside.specs.Reading.{GivesAtMost, GivesBytes}
 use Rattle.dz_outside.specs.Writing.{AppendsPart}
 use Rattle.dz_words.specs.Words.{HasShape, IsWritten}
 use Rattle.dz_words.specs.declared.words.Request.{Request}
-use Rattle.dz_run.specs.Answer.{Answer, answer_to, is_built}
+use Rattle.dz_run.specs.Answer.{Answer}
+use Rattle.dz_run.specs.Verbs.{answer_to, has_input}
 use Rattle.dz_run.specs.declared.ending.Ending.{Ending}
-use Rattle.dz_run.specs.declared.ending.Ending.TheVariants.{NotWritten, ReadFault, WriteFault, WriteStuck, NoMemory, TooLong, NotBuilt}
+use Rattle.dz_run.specs.declared.ending.Ending.TheVariants.{NotWritten, ReadFault, WriteFault, WriteStuck, NoMemory, TooLong}
 
 -- the most bytes of an input
 abbrev pub most_bytes : ℕ
@@ -36,24 +37,31 @@ IsTold before after message =
     Appends before.written after.written message
     ⊎ (AppendsPart before.written after.written message × (Rose before.faults after.faults ⊎ Rose before.stalls after.stalls))
 
--- the words have a written form, and ask for what is built
-pub record IsAsking (words : List (List ℕ)) : Type 0 where
+-- the words have a written form, and ask for a verb that has an input
+pub record IsReading (words : List (List ℕ)) : Type 0 where
   pub request : Request
   pub written : IsWritten words request
-  pub built : is_built request.verb ≡ true
+  pub has : has_input request.verb ≡ true
 
--- the words ask for what is built, the whole input was read, and this is the answer to it
+-- the whole input was read; where a verb has none, nothing was
+abbrev pub IsTaken : Bool → Input → Input → List ℕ → Type 0
+IsTaken true before after bytes = IsRead before after bytes
+IsTaken false before after bytes = (after ≡ before) × (bytes ≡ [])
+
+-- the words have a written form, their input was read, and this is the answer to them
 pub record IsAnswered (words : List (List ℕ)) (before after : Input) (answer : Answer) : Type 0 where
-  pub asking : IsAsking words
+  pub request : Request
+  pub written : IsWritten words request
   pub bytes : List ℕ
-  pub read : IsRead before after bytes
-  pub is : answer_to asking.request bytes ≡ answer
+  pub taken : IsTaken (has_input request.verb) before after bytes
+  pub is : answer_to request bytes ≡ answer
 
 -- the output took all that the answer prints, and the run ends as the answer says
-pub record IsGiven (words : List (List ℕ)) (before after : Input) (out out' : Output) (ending : Ending) : Type 0 where
+pub record IsGiven (words : List (List ℕ)) (before after : Input) (out out' : Output) (ending : Ending) (point : List ℕ) : Type 0 where
   pub answer : Answer
   pub answered : IsAnswered words before after answer
   pub ends : answer.ending ≡ ending
+  pub tells : answer.point ≡ point
   pub printed : Appends out.written out'.written answer.output
 
 -- the output took a first part of what the answer prints, and not all
@@ -62,20 +70,25 @@ pub record IsCut (words : List (List ℕ)) (before after : Input) (out out' : Ou
   pub answered : IsAnswered words before after answer
   pub printed : AppendsPart out.written out'.written answer.output
 
--- When a run ends in each way, by its words, its input and its output, each before and after.
-abbrev pub Ends : List (List ℕ) → Input → Input → Output → Output → Ending → Type 0
-Ends words before after out out' NotWritten = ((request : Request) → IsWritten words request → ⊥) × Keeps out.written out'.written
-Ends words before after out out' NotBuilt =
-    (request : Request) × IsWritten words request × (is_built request.verb ≡ false) × Keeps out.written out'.written
-Ends words before after out out' ReadFault =
-    IsAsking words × Rose before.faults after.faults × GivesAtMost before.rest after.rest most_bytes × Keeps out.written out'.written
-Ends words before after out out' WriteFault = IsCut words before after out out' × Rose out.faults out'.faults
-Ends words before after out out' WriteStuck = IsCut words before after out out' × Rose out.stalls out'.stalls
-Ends words before after out out' NoMemory =
+-- When a run ends in each way, and what is told of a point, by its words, its input and its output, each before and after.
+abbrev pub Ends : List (List ℕ) → Input → Input → Output → Output → Ending → List ℕ → Type 0
+Ends words before after out out' NotWritten point = ((request : Request) → IsWritten words request → ⊥) × Keeps out.written out'.written
+Ends words before after out out' ReadFault point =
+    IsReading words × Rose before.faults after.faults × GivesAtMost before.rest after.rest most_bytes × Keeps out.written out'.written
+Ends words before after out out' WriteFault point = IsCut words before after out out' × Rose out.faults out'.faults
+Ends words before after out out' WriteStuck point = IsCut words before after out out' × Rose out.stalls out'.stalls
+Ends words before after out out' NoMemory point =
     HasShape words × GivesAtMost before.rest after.rest most_bytes × Keeps out.written out'.written
-Ends words before after out out' TooLong =
-    IsAsking words × GivesBytes before.rest after.rest (most_bytes + 1) × Keeps out.written out'.written
-Ends words before after out out' ending = IsGiven words before after out out' ending
+Ends words before after out out' TooLong point =
+    IsReading words × GivesBytes before.rest after.rest (most_bytes + 1) × Keeps out.written out'.written
+Ends words before after out out' ending point = IsGiven words before after out out' ending point
+
+-- how reading stops before the end of the input
+abbrev pub IsReadStop : Input → Input → Ending → Type 0
+IsReadStop before after ReadFault = Rose before.faults after.faults × GivesAtMost before.rest after.rest most_bytes
+IsReadStop before after NoMemory = GivesAtMost before.rest after.rest most_bytes
+IsReadStop before after TooLong = GivesBytes before.rest after.rest (most_bytes + 1)
+IsReadStop before after ending = ⊥
 
 -- writing an answer leaves all of it on the output, or a first part of it where the output failed or took nothing more
 abbrev pub WritesAnswer : Output → Output → List ℕ → Result ⊤ Ending → Type 0

@@ -2,10 +2,10 @@
 use Rattle.std.specs.Prelude.{◌≡◌, ⊤, ℕ, ◌+◌, List, [], ◌∷◌, ◌++◌, codes, Option, Some, None, Result, Ok, Err}
 use Rattle.std.specs.Fmt.{decimal}
 use Rattle.dz_algebra.specs.declared.Limit.{Limit}
-use Rattle.dz_algebra.specs.declared.Limit.TheVariants as limits
 use Rattle.dz_algebra.specs.Polynomial.{Polynomial}
 use Rattle.dz_algebra.specs.Size.{Refusal, wide, large}
 use Rattle.dz_algebra.specs.Symbols.{Symbols}
+use Rattle.dz_form.specs.Limits.{limit_word}
 use Rattle.dz_form.specs.Values.{◌>>=◌, item_answer}
 use Rattle.dz_rank.specs.Rankings.{RankingValue}
 use Rattle.dz_rank.specs.declared.symbols.Symbol.{Symbol}
@@ -23,7 +23,7 @@ use Rattle.dz_run.specs.declared.system.Refused.TheVariants.{Wide, Large, TooMan
 use Rattle.dz_run.specs.declared.system.Stop.{Stop}
 use Rattle.dz_run.specs.declared.system.Stop.TheVariants.{Memory}
 use Rattle.dz_run.specs.declared.system.Stop.TheVariants as stops
-use Rattle.dz_run.specs.declared.system.Group.TheVariants.{Equation, Inequation}
+use Rattle.dz_run.specs.declared.system.Group.TheVariants.{Equation, Inequation, Question}
 
 -- the ranking that a text declares
 abbrev pub ranking_of : Tree → RankingValue
@@ -66,25 +66,21 @@ system_answer tree =
     >>= λ es. items_answer (symbols_under (ranking_of tree)) Inequation 0 tree.inequations
     >>= λ hs. within_limits es hs
 
+-- the questions of a text, which are expanded in order
+unfoldable pub questions_answer : Tree → Result Polynomials Refused
+questions_answer tree = items_answer (symbols_under (ranking_of tree)) Question 0 tree.questions
+
 -- ---- the line that names it
 abbrev pub group_name : Group → List ℕ
 group_name Equation = codes "equation "
 group_name Inequation = codes "inequation "
-
-abbrev pub limit_name : Limit → List ℕ
-limit_name limits.Order = codes "order"
-limit_name limits.Exponent = codes "exponent"
-limit_name limits.Symbols = codes "symbols"
-limit_name limits.Terms = codes "terms"
-limit_name limits.Polynomials = codes "polynomials"
-limit_name limits.Node = codes "node"
-limit_name limits.Splits = codes "splits"
+group_name Question = codes "question "
 
 -- the line for a refused item, or for a system with too many members or terms
 abbrev pub refused_line : Refused → List ℕ
 refused_line (Wide group n) = group_name group ++ decimal n ++ codes " wide\n"
-refused_line (Large group n limit) = group_name group ++ decimal n ++ codes " large " ++ limit_name limit ++ codes "\n"
-refused_line (TooMany limit) = codes "system large " ++ limit_name limit ++ codes "\n"
+refused_line (Large group n limit) = group_name group ++ decimal n ++ codes " large " ++ limit_word limit ++ codes "\n"
+refused_line (TooMany limit) = codes "system large " ++ limit_word limit ++ codes "\n"
 
 -- ---- in a book
 -- the stop is the refusal, or memory ran out

@@ -7,9 +7,10 @@ ghost use Rattle.dz_cert.specs.Reading.{document_at};
 ghost use Rattle.dz_syntax.specs.Names.{signature_of};
 ghost use Rattle.dz_syntax.specs.Systems.{HasExpressions, tree_of};
 ghost use Rattle.dz_tree.specs.Systems.{IsSystemIn, system_in};
-ghost use Rattle.dz_run.specs.Answer.{answer_of, checked_document, document_told, rule_name};
-ghost use Rattle.dz_run.specs.Answer.{verdict_ending, verdict_line, with_system};
-ghost use Rattle.dz_run.specs.System.{ranking_of, system_answer};
+ghost use Rattle.dz_run.specs.Answer.{answer_of, with_system};
+ghost use Rattle.dz_run.specs.Checked.{checked_document, document_told, rule_name};
+ghost use Rattle.dz_run.specs.Checked.{verdict_ending, verdict_line};
+ghost use Rattle.dz_run.specs.System.{ranking_of};
 
 use crate::ending::Ending;
 use crate::system::{Stop, system_of};
@@ -101,7 +102,7 @@ fn verdict_told(
     let verdict = check_document(alloc, book, names, system, document)?;
     let output = verdict_line(alloc, verdict)?;
     let ending = verdict_ending(verdict);
-    Ok(Told { output, ending })
+    Ok(Told::printed(alloc, output, ending))
 }
 
 /// The answer of `check` for a document that was read.
@@ -116,7 +117,7 @@ fn document_checked(
     requires signature { text.now.signature ≡ signature_of text.now.names }
     requires named { AllByRecursion (λ line. IsLineOf text.now.names line)
         document.now.tree.lines }
-    ensures { IfOk result (λ told. answer_of told ≡ with_system (system_answer (tree_of text.now))
+    ensures { IfOk result (λ told. answer_of told ≡ with_system (tree_of text.now)
         (checked_document (ranking_of (tree_of text.now)) text.now.names document.now.tree
         (map texts_of document.now.chains.items))) }
 {

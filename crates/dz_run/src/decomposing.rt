@@ -1,20 +1,24 @@
-// The answer of `decompose`.
-ghost use Rattle.std.specs.Prelude.{◌≡◌, ◌≤◌, IfOk, map};
+// The answer of `decompose`, with which those on chains begin.
+ghost use Rattle.std.specs.Prelude.{◌≡◌, ◌≤◌, All, IfOk, OnOk, map};
+ghost use Rattle.dz_diff.specs.States.{StandsIn, state_in};
+ghost use Rattle.dz_poly.specs.Books.{IsKept};
 ghost use Rattle.dz_syntax.specs.Names.{signature_of};
 ghost use Rattle.dz_syntax.specs.Systems.{HasExpressions, tree_of};
 ghost use Rattle.dz_tree.specs.Systems.{IsSystemIn, system_in};
 ghost use Rattle.dz_tree.specs.TreeLines.{line_of};
-ghost use Rattle.dz_run.specs.Answer.{answer_of, decomposed, lines_ending, open_ending, with_system};
-ghost use Rattle.dz_run.specs.System.{ranking_of, system_answer};
+ghost use Rattle.dz_run.specs.Answer.{answer_of, printed, with_system};
+ghost use Rattle.dz_run.specs.Decomposed.{decomposed, lines_ending, open_ending, worked_chains};
+ghost use Rattle.dz_run.specs.System.{ranking_of};
 
 use crate::ending::Ending;
 use crate::system::{Stop, system_of};
 use crate::told::{Told, refused_answer};
-use dz_cert::write_document;
+use dz_cert::write_document_with;
+use dz_diff::State;
 use dz_engine::decompose;
 use dz_poly::Book;
 use dz_syntax::{Names, SystemTree};
-use dz_tree::{Line, System};
+use dz_tree::{Line, System, chains};
 use std::alloc::{AllocError, Global};
 
 /// How the run ends for an open end of a tree.
@@ -30,7 +34,7 @@ fn open_ending(line: &Line) -> Option<Ending>
 }
 
 /// How the run ends for the lines of a tree: as the first open end says.
-fn lines_ending(lines: &[Line]) -> Ending
+pub(crate) fn lines_ending(lines: &[Line]) -> Ending
     ensures { result ≡ lines_ending (map line_of lines.now) }
 {
     'lines: for line in lines {
@@ -41,9 +45,49 @@ fn lines_ending(lines: &[Line]) -> Ending
     Ending::Done
 }
 
-/// The document of the worked tree of a system and a budget.
-#[tactic(auto, unfolding(crate::specs::Answer::decomposed))]
-fn document_told(
+/// A system that was decomposed: the document of its worked tree, how the run ends for it, and the
+/// states of its chains.
+#[derive(Drop)]
+pub(crate) struct Worked {
+    pub document: Vec<u8>,
+    pub ending: Ending,
+    pub chains: Vec<State>,
+}
+
+/// The worked tree of a system and a budget, as a document and as chains in the book.
+pub(crate) fn worked_system(
+    alloc: Global,
+    book: &mut Book,
+    names: &Names,
+    system: &System,
+    budget: u32,
+) -> Result<Worked, AllocError>
+    requires system { IsSystemIn book.old system.now }
+    requires signature { signature_of names.now ≡ book.old.ranking.signature }
+    requires most { budget ≤ 20000000 }
+    ensures answer { IfOk result (λ w. printed w.document.items w.ending
+        ≡ decomposed book.old.ranking names.now budget (system_in book.old system.now)) }
+    ensures chains { IfOk result (λ w. map (λ s. state_in book.new s) w.chains.items
+        ≡ worked_chains book.old.ranking budget (system_in book.old system.now)) }
+    ensures stand { IfOk result (λ w. All (λ s. StandsIn book.new s) w.chains.items) }
+    ensures kept { OnOk result (IsKept book.old book.new) }
+{
+    // The facts of all books are known of this one: a ranking has few independents and dependents.
+    book.opened();
+    let _ = book.ranking().signature();
+    let tree = decompose(alloc, book, system, budget)?;
+    let chains = chains(alloc, book, system, &tree)?;
+    let document = write_document_with(alloc, book, names, &tree, &chains)?;
+    let ending = lines_ending(tree.lines());
+    Ok(Worked {
+        document,
+        ending,
+        chains,
+    })
+}
+
+/// The answer to a system.
+fn system_told(
     alloc: Global,
     book: &mut Book,
     names: &Names,
@@ -56,13 +100,8 @@ fn document_told(
     ensures { IfOk result (λ told. answer_of told
         ≡ decomposed book.old.ranking names.now budget (system_in book.old system.now)) }
 {
-    // The facts of all books are known of this one: a ranking has few independents and dependents.
-    book.opened();
-    let _ = book.ranking().signature();
-    let tree = decompose(alloc, book, system, budget)?;
-    let output = write_document(alloc, book, names, system, &tree)?;
-    let ending = lines_ending(tree.lines());
-    Ok(Told { output, ending })
+    let worked = worked_system(alloc, book, names, system, budget)?;
+    Ok(Told::printed(alloc, worked.document, worked.ending))
 }
 
 /// The answer of `decompose` for a text.
@@ -76,11 +115,11 @@ pub(crate) fn decomposed(
     requires expressions { HasExpressions (tree_of text.now) }
     requires signature { text.now.signature ≡ signature_of text.now.names }
     requires most { budget ≤ 20000000 }
-    ensures { IfOk result (λ told. answer_of told ≡ with_system (system_answer (tree_of text.now))
+    ensures { IfOk result (λ told. answer_of told ≡ with_system (tree_of text.now)
         (decomposed (ranking_of (tree_of text.now)) text.now.names budget)) }
 {
     match system_of(alloc, book, text) {
-        Ok(system) => document_told(alloc, book, &text.names, &system, budget),
+        Ok(system) => system_told(alloc, book, &text.names, &system, budget),
         Err(Stop::Memory) => Err(AllocError),
         Err(Stop::Refused(refused)) => refused_answer(alloc, refused),
     }

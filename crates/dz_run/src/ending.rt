@@ -35,8 +35,9 @@ pub enum Ending {
     NoMemory,
     /// The input has more bytes than are read.
     TooLong,
-    /// The words ask for what is not built yet.
-    NotBuilt,
+    /// There is no series: the chain, the ranking or the point is refused. The output has the
+    /// document of the complete tree.
+    Point,
 }
 
 impl Ending {
@@ -58,8 +59,8 @@ impl Ending {
             Ending::ReadFault => 7,
             Ending::WriteFault | Ending::WriteStuck => 8,
             Ending::NoMemory => 9,
+            Ending::Point => 10,
             Ending::TooLong => 11,
-            Ending::NotBuilt => 12,
         }
     }
 }

@@ -2,11 +2,14 @@
 #![tactic(auto)]
 
 mod answer;
+mod asking;
+mod charting;
 mod checking;
 mod decomposing;
 mod ending;
 mod message;
 mod run;
+mod sampling;
 mod system;
 mod told;
 

@@ -1,5 +1,5 @@
 // What the error output is told of how a run ended.
-ghost use Rattle.std.specs.Prelude.{◌≡◌, ◌≤◌, map, OnErr, OnOk, IsErrOf};
+ghost use Rattle.std.specs.Prelude.{◌≡◌, ◌≤◌, [], map, OnErr, OnOk, IsErrOf};
 ghost use Rattle.std.specs.List.{concat};
 ghost use Rattle.std.specs.Io.KnownBytes.{Appends};
 ghost use Rattle.dz_outside.specs.Causes.{Rose};
@@ -68,10 +68,11 @@ fn write_document_message<L: Sink>(err: &mut L, fault: CertFault) -> Result<(), 
 
 /// The message of an ending that is one and the same line at each run, or nothing.
 fn fixed_message(ending: Ending) -> &'static [u8]
-    ensures { (HasFault ending → ⊥) → result.now ≡ message_of ending }
+    ensures { (HasFault ending → ⊥) → result.now ≡ message_of ending [] }
 {
     match ending {
-        Ending::Done | Ending::Rejected | Ending::Syntax(_) | Ending::Document(_) => b"",
+        Ending::Done | Ending::Rejected | Ending::Syntax(_) | Ending::Document(_) | Ending::Point =>
+            b"",
         Ending::NotWritten => b"blad: the words are no written form\n",
         Ending::Wide => b"blad: wide\n",
         Ending::Spent => b"blad: budget spent\n",
@@ -81,14 +82,13 @@ fn fixed_message(ending: Ending) -> &'static [u8]
         Ending::WriteStuck => b"blad: write stuck\n",
         Ending::NoMemory => b"blad: no memory\n",
         Ending::TooLong => b"blad: input too long\n",
-        Ending::NotBuilt => b"blad: not built yet\n",
     }
 }
 
 /// Writes the line that tells of the first fault of a text.
 fn write_syntax_message<L: Sink>(err: &mut L, fault: SyntaxFault) -> Result<(), WriteStop>
-    ensures ok { OnOk result (Appends (L.written err.old) (L.written err.new) (message_of (Syntax fault))) }
-    ensures err { OnErr result (AppendsPart (L.written err.old) (L.written err.new) (message_of (Syntax fault))) }
+    ensures ok { OnOk result (Appends (L.written err.old) (L.written err.new) (message_of (Syntax fault) [])) }
+    ensures err { OnErr result (AppendsPart (L.written err.old) (L.written err.new) (message_of (Syntax fault) [])) }
     ensures failed { IsErrOf result WriteStop.Failed → Rose (L.faults err.old) (L.faults err.new) }
     ensures stuck { IsErrOf result WriteStop.Stuck → Rose (L.stalls err.old) (L.stalls err.new) }
 {
@@ -106,16 +106,22 @@ fn write_syntax_message<L: Sink>(err: &mut L, fault: SyntaxFault) -> Result<(), 
     )
 }
 
-/// Writes the line that tells of an ending, where there is one.
-pub(crate) fn write_message<L: Sink>(err: &mut L, ending: Ending) -> Result<(), WriteStop>
-    ensures ok { OnOk result (Appends (L.written err.old) (L.written err.new) (message_of ending)) }
-    ensures err { OnErr result (AppendsPart (L.written err.old) (L.written err.new) (message_of ending)) }
+/// Writes the line that tells of an ending, where there is one; `point` is that of a point that is
+/// refused.
+pub(crate) fn write_message<L: Sink>(
+    err: &mut L,
+    ending: Ending,
+    point: &[u8],
+) -> Result<(), WriteStop>
+    ensures ok { OnOk result (Appends (L.written err.old) (L.written err.new) (message_of ending point.now)) }
+    ensures err { OnErr result (AppendsPart (L.written err.old) (L.written err.new) (message_of ending point.now)) }
     ensures failed { IsErrOf result WriteStop.Failed → Rose (L.faults err.old) (L.faults err.new) }
     ensures stuck { IsErrOf result WriteStop.Stuck → Rose (L.stalls err.old) (L.stalls err.new) }
 {
     match ending {
         Ending::Syntax(fault) => write_syntax_message(err, fault),
         Ending::Document(fault) => write_document_message(err, fault),
+        Ending::Point => write_all(err, point),
         _ => write_all(err, fixed_message(ending)),
     }
 }

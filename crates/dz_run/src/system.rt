@@ -6,9 +6,10 @@ ghost use Rattle.dz_terms.specs.Ranked.{symbols_under};
 ghost use Rattle.dz_syntax.specs.Postfix.{IsExpression};
 ghost use Rattle.dz_syntax.specs.Systems.{HasExpressions, tree_of};
 ghost use Rattle.dz_run.specs.System.{GivesAll, GivesNumbered, GivesSystem};
-ghost use Rattle.dz_run.specs.System.{group_name, items_answer, limit_name, numbered, ranking_of, refused_line, system_answer};
+ghost use Rattle.dz_run.specs.System.{group_name, items_answer, numbered, questions_answer, ranking_of};
+ghost use Rattle.dz_run.specs.System.{refused_line, system_answer};
 
-use dz_form::expand;
+use dz_form::{expand, limit_word};
 use dz_poly::{Book, Limit, Poly, PolyStop};
 use dz_syntax::{Item, SystemTree};
 use dz_tree::System;
@@ -20,6 +21,7 @@ use std::alloc::{AllocError, AllocFailed, Global};
 pub(crate) enum Group {
     Equation,
     Inequation,
+    Question,
 }
 
 /// Why a text that was read gives no system. Items are numbered in their group, from 1.
@@ -111,6 +113,21 @@ pub(crate) fn system_of(alloc: Global, book: &mut Book, tree: &SystemTree) -> Re
     }
 }
 
+/// The questions of a text, which are expanded in order.
+#[tactic(auto, unfolding(crate::specs::System::questions_answer))]
+pub(crate) fn questions_of(
+    alloc: Global,
+    book: &mut Book,
+    tree: &SystemTree,
+) -> Result<Vec<Poly>, Stop>
+    requires ranking { book.old.ranking ≡ ranking_of (tree_of tree.now) }
+    requires expressions { HasExpressions (tree_of tree.now) }
+    ensures questions { GivesAll (λ ps. ps.items) book.new result (questions_answer (tree_of tree.now)) }
+    ensures kept { OnOk result (IsKept book.old book.new) }
+{
+    expand_items(alloc, book, Group::Question, &tree.questions)
+}
+
 /// The word for a group.
 fn group_name(group: Group) -> &'static [u8]
     ensures { result.now ≡ group_name group }
@@ -118,21 +135,7 @@ fn group_name(group: Group) -> &'static [u8]
     match group {
         Group::Equation => b"equation ",
         Group::Inequation => b"inequation ",
-    }
-}
-
-/// The word for a limit.
-fn limit_name(limit: Limit) -> &'static [u8]
-    ensures { result.now ≡ limit_name limit }
-{
-    match limit {
-        Limit::Order => b"order",
-        Limit::Exponent => b"exponent",
-        Limit::Symbols => b"symbols",
-        Limit::Terms => b"terms",
-        Limit::Polynomials => b"polynomials",
-        Limit::Node => b"node",
-        Limit::Splits => b"splits",
+        Group::Question => b"question ",
     }
 }
 
@@ -158,11 +161,11 @@ pub(crate) fn refused_line(alloc: Global, refused: Refused) -> Result<Vec<u8>, A
         Refused::Large(group, number, limit) => {
             write_item(&mut text, group, number)?;
             text.extend_from_slice(b" large ")?;
-            text.extend_from_slice(limit_name(limit))?;
+            text.extend_from_slice(limit_word(limit))?;
         }
         Refused::TooMany(limit) => {
             text.extend_from_slice(b"system large ")?;
-            text.extend_from_slice(limit_name(limit))?;
+            text.extend_from_slice(limit_word(limit))?;
         }
     }
     text.extend_from_slice(b"\n")?;

@@ -1,30 +1,40 @@
 // An answer to words and an input.
 ghost use Rattle.std.specs.Prelude.{◌≡◌, IfOk};
-ghost use Rattle.dz_run.specs.Answer.{answer_of, refused_answer, refused_ending, silent};
+ghost use Rattle.dz_run.specs.Answer.{answer_of, printed, refused_answer, refused_ending, silent};
 
 use crate::ending::Ending;
 use crate::system::{Refused, refused_line};
 use std::alloc::{AllocError, Global};
 
-/// What is to be printed, and how the run ends where the output takes all of it.
+/// What is to be printed, how the run ends where the output takes all of it, and the message where a
+/// point is refused.
 #[derive(Drop)]
 pub(crate) struct Told {
     pub output: Vec<u8>,
     pub ending: Ending,
+    pub point: Vec<u8>,
 }
 
 impl Told {
     ghost use Rattle.std.specs.Prelude.{◌≡◌};
-    ghost use Rattle.dz_run.specs.Answer.{answer_of, silent};
+    ghost use Rattle.dz_run.specs.Answer.{answer_of, printed, silent};
+
+    /// This is printed, and no point is refused.
+    pub(crate) fn printed(alloc: Global, output: Vec<u8>, ending: Ending) -> Told
+        ensures { answer_of result ≡ printed output.items ending }
+    {
+        Told {
+            output,
+            ending,
+            point: Vec::new(alloc),
+        }
+    }
 
     /// Nothing is printed.
     pub(crate) fn silent(alloc: Global, ending: Ending) -> Told
         ensures { answer_of result ≡ silent ending }
     {
-        Told {
-            output: Vec::new(alloc),
-            ending,
-        }
+        Told::printed(alloc, Vec::new(alloc), ending)
     }
 }
 
@@ -43,6 +53,5 @@ pub(crate) fn refused_answer(alloc: Global, refused: Refused) -> Result<Told, Al
     ensures { IfOk result (λ told. answer_of told ≡ refused_answer refused) }
 {
     let output = refused_line(alloc, refused)?;
-    let ending = refused_ending(refused);
-    Ok(Told { output, ending })
+    Ok(Told::printed(alloc, output, refused_ending(refused)))
 }

@@ -1,6 +1,6 @@
 use Rattle.std.proofs.Common.{◌≡◌, drop, map}
 use Rattle.dz_tree.specs.TreeLines.{line_of}
-use Rattle.dz_run.specs.Answer.{lines_ending}
+use Rattle.dz_run.specs.Decomposed.{lines_ending}
 use Rattle.dz_run.proofs.decomposing.lines_ending.Given as goal
 
 -- the lines that are left decide

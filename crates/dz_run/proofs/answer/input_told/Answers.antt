@@ -3,7 +3,7 @@ use Rattle.std.specs.Prelude.{IfErr}
 use Rattle.dz_rank.specs.declared.rankings.Block.{Block}
 use Rattle.dz_rank.specs.Rankings.{IsFaultOf, IsRanking, ranking_value}
 use Rattle.dz_run.proofs.Rankings.{never_missing, never_twice}
-use Rattle.dz_run.proofs.answer.answer.Goals as goal
+use Rattle.dz_run.proofs.answer.input_told.Goals as goal
 
 pub unreachable-requires : goal.unreachable-requires
 unreachable-requires c =
