@@ -53,7 +53,7 @@ pub fn values(alloc: Global, book: &mut Book, items: &[Item]) -> Result<Vec<Poly
 {
     let mut polys = Vec::new(alloc);
     'items: for index in 0..items.len() {
-        let p = expand(book, &items[index])?;
+        let p = expand(alloc, book, &items[index])?;
         polys.push(p)?;
     }
     Ok(polys)

@@ -21,7 +21,7 @@ use Rattle.dz_syntax.specs.declared.expression.Op.{Op}
 use Rattle.dz_syntax.specs.declared.expression.Op.TheVariants.{Number, Symbol, Negate, Add, Sub, Mul, Power}
 use Rattle.dz_syntax.specs.Postfix.{IsExpression, IsStep}
 use Rattle.dz_form.specs.Values.{◌>>=◌, Polynomials, item_answer, latest, onto, power_answer, step_answer, steps_answer, times}
-use Rattle.dz_form.proofs.Keeping.{negated_keepable}
+use Rattle.dz_sums.proofs.Negated.{negated_keepable}
 
 -- every value may stand in a book
 abbrev pub AreKeepable : RankingValue → Polynomials → Type 0

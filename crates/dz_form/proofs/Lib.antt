@@ -1,7 +1,6 @@
 pub mod Stacks
 pub mod Keeping
 pub mod Times
-pub mod Negatives
 pub mod Folding
 pub mod TextTokens
 pub mod SymbolTexts

@@ -1,112 +1,90 @@
--- The latest polynomials of a book, and what comes in their place.
-use Rattle.std.proofs.Common.{◌≡◌, ◌<◌, ◌≤◌, ◌+◌, ◌∙◌, sym, ap, subst, ℕ, [], ◌∷◌, ◌++◌, length, take, reverse, Result, Ok, Err, arith, inl, inr}
-use Rattle.std.specs.Prelude.{slice_index_or, unsigned_abs, ◌^◌}
-use Rattle.std.proofs.Common.{ℤ, pos, to_z, of_z}
-use Rattle.std.specs.Int.{w128}
-use Rattle.std.proofs.lemmas.Int.{fits_signed_from_abs, to_z-of_z}
-use Rattle.dz_syntax.specs.Expressions.{most_literal}
-use Rattle.std.proofs.lemmas.List.{reverse-append, take_all, take_more, take-take}
+-- The values on a stack, and what comes in the place of the latest.
+use Rattle.std.proofs.Common.{◌≡◌, ◌∙◌, sym, ap, subst, ℕ, List, [], ◌∷◌, ◌++◌, map, reverse, Result, Ok, Err, inl, inr}
+use Rattle.std.specs.Prelude.{Some}
+use Rattle.std.proofs.lemmas.List.{map-append, reverse-append}
+use Rattle.std.proofs.lemmas.List.Elements.{All-pop, All-push}
 use Rattle.dz_algebra.specs.Polynomial.{Polynomial}
-use Rattle.dz_algebra.specs.Size.{Refusal}
+use Rattle.dz_algebra.specs.Size.{Refusal, difference_answer, operation, product_answer, sum_answer}
+use Rattle.dz_algebra.specs.Symbols.{Symbols}
+use Rattle.dz_rank.specs.Rankings.{RankingValue}
 use Rattle.dz_rank.specs.declared.symbols.Symbol.{Symbol}
-use Rattle.dz_poly.specs.Books.{BookValue, Gives, IsAdded, IsKept, Means, polynomial}
-use Rattle.dz_poly.proofs.Books.{means_polynomial}
+use Rattle.dz_syntax.specs.declared.expression.Op.{Op}
+use Rattle.dz_syntax.specs.declared.expression.Op.TheVariants.{Add, Sub, Mul, Power}
+use Rattle.dz_terms.specs.Entries.{IsEntry}
+use Rattle.dz_terms.specs.Signs.{with_sign}
 use Rattle.dz_terms.specs.Stops.{IsStop}
 use Rattle.dz_terms.specs.declared.PolyStop.{PolyStop}
-use Rattle.dz_form.specs.Values.{GivesValues, Polynomials, onto, values_in}
+use Rattle.dz_terms.specs.declared.entry.Entry.{Entry}
+use Rattle.dz_terms.specs.declared.sums.Sign.TheVariants.{Plus, Minus}
+use Rattle.dz_terms.proofs.Summing.{minus_negates, plus_same}
+use Rattle.dz_form.specs.Values.{AreEntries, Polynomials, onto, power_answer, step_answer, values_of}
 
--- a list from its last element on
-pub latest_first : (xs : Polynomials) (k : ℕ) → k + 1 ≡ length xs → reverse xs ≡ slice_index_or xs k [] ∷ reverse (take k xs)
-latest_first xs k e =
-    let inside : k < length xs = omega arith in
-    let all : length xs ≤ k + 1 = omega arith in
-    let split : xs ≡ take k xs ++ slice_index_or xs k [] ∷ [] = sym (take_all (k + 1) xs all) ∙ take_more xs k [] inside in
-    ap reverse split ∙ reverse-append (take k xs) (slice_index_or xs k [] ∷ [])
+-- a value on top of a stack is its latest
+pub values_more : (stack more : List Entry) (e : Entry) → more ≡ stack ++ e ∷ [] → values_of more ≡ e.terms.items ∷ values_of stack
+values_more stack more e is =
+    ap values_of is ∙ ap reverse (map-append (λ (e : Entry). e.terms.items) stack (e ∷ [])) ∙ reverse-append (map (λ (e : Entry). e.terms.items) stack) (e.terms.items ∷ [])
 
--- a list from its last two elements on
-pub latest_two : (xs : Polynomials) (k l : ℕ) → k + 2 ≡ length xs → l + 1 ≡ length xs → reverse xs ≡ slice_index_or xs l [] ∷ slice_index_or xs k [] ∷ reverse (take k xs)
-latest_two xs k l e f =
-    let same : l ≡ k + 1 = omega arith in
-    let inside : k < length xs = omega arith in
-    latest_first xs l f
-    ∙ ap (λ (n : ℕ). slice_index_or xs l [] ∷ reverse (take n xs)) same
-    ∙ ap (λ (ys : Polynomials). slice_index_or xs l [] ∷ reverse ys) (take_more xs k [] inside)
-    ∙ ap (λ (ys : Polynomials). slice_index_or xs l [] ∷ ys) (reverse-append (take k xs) (slice_index_or xs k [] ∷ []))
+-- the latest entry of a stack, and those below it
+popped : (r : RankingValue) (stack more : List Entry) (e : Entry) → more ≡ stack ++ e ∷ [] → AreEntries r more → AreEntries r stack × IsEntry r e.terms.items e.degrees.items
+popped r stack more e is h = All-pop (λ (e : Entry). IsEntry r e.terms.items e.degrees.items) more stack (Some e) is h
 
--- what an operation made has come in the place of the values from one on
-pub put_in_place : (old made new : BookValue) (first p : ℕ) (answer : Result (Polynomial Symbol) Refusal) → first ≤ length old.polynomials → IsKept old made → Gives made (Ok p) answer
-    → new ≡ record { ranking = made.ranking; polynomials = take first made.polynomials ++ polynomial made p ∷ [] } → GivesValues new (Ok tt) (onto (reverse (take first old.polynomials)) answer)
-put_in_place old made new first p (Err e) inside kept given is = absurd given
-put_in_place old made new first p (Ok q) inside kept given is =
-    let front : take first made.polynomials ≡ take first old.polynomials = sym (take-take first (length old.polynomials) made.polynomials inside) ∙ ap (take first) kept.front in
-    ap values_in is
-    ∙ reverse-append (take first made.polynomials) (polynomial made p ∷ [])
-    ∙ ap (λ (x : Polynomial Symbol). x ∷ reverse (take first made.polynomials)) (means_polynomial made p q given)
-    ∙ ap (λ (ys : Polynomials). q ∷ reverse ys) front
+-- the latest entry of a stack
+pub entry_taken : (r : RankingValue) (stack more : List Entry) (e : Entry) → more ≡ stack ++ e ∷ [] → AreEntries r more → IsEntry r e.terms.items e.degrees.items
+entry_taken r stack more e is h = (popped r stack more e is h).1
 
--- the two latest values give place to what an operation makes of them
-pub two_replaced : (f : Polynomial Symbol → Polynomial Symbol → Result (Polynomial Symbol) Refusal) (answer : Polynomials → Result Polynomials Refusal)
-    → ((a b : Polynomial Symbol) (values : Polynomials) → answer (b ∷ a ∷ values) ≡ onto values (f a b))
-    → (old made new : BookValue) (first second p : ℕ) → first + 1 + 1 ≡ length old.polynomials → second + 0 + 1 ≡ length old.polynomials → IsKept old made
-    → Gives made (Ok p) (f (polynomial old first) (polynomial old second)) → new ≡ record { ranking = made.ranking; polynomials = take first made.polynomials ++ polynomial made p ∷ [] }
-    → GivesValues new (Ok tt) (answer (values_in old))
-two_replaced f answer same old made new first second p e g kept given is =
-    let split = latest_two old.polynomials first second (omega arith) (omega arith) in
-    let rest = reverse (take first old.polynomials) in
-    let a = polynomial old first in
-    let b = polynomial old second in
-    subst (λ r. GivesValues new (Ok tt) r) (sym (ap answer split ∙ same a b rest))
-    (put_in_place old made new first p (f a b) (omega arith) kept given is)
+-- the entries below it
+pub entries_left : (r : RankingValue) (stack more : List Entry) (e : Entry) → more ≡ stack ++ e ∷ [] → AreEntries r more → AreEntries r stack
+entries_left r stack more e is h = (popped r stack more e is h).0
 
--- the latest value gives place to what an operation makes of it
-pub one_replaced : (f : Polynomial Symbol → Result (Polynomial Symbol) Refusal) (answer : Polynomials → Result Polynomials Refusal)
-    → ((a : Polynomial Symbol) (values : Polynomials) → answer (a ∷ values) ≡ onto values (f a))
-    → (old made new : BookValue) (latest p : ℕ) → latest + 0 + 1 ≡ length old.polynomials → IsKept old made
-    → Gives made (Ok p) (f (polynomial old latest)) → new ≡ record { ranking = made.ranking; polynomials = take latest made.polynomials ++ polynomial made p ∷ [] }
-    → GivesValues new (Ok tt) (answer (values_in old))
-one_replaced f answer same old made new latest p e kept given is =
-    let split = latest_first old.polynomials latest (omega arith) in
-    let rest = reverse (take latest old.polynomials) in
-    let a = polynomial old latest in
-    subst (λ r. GivesValues new (Ok tt) r) (sym (ap answer split ∙ same a rest))
-    (put_in_place old made new latest p (f a) (omega arith) kept given is)
+-- an entry on top of others
+pub entries_more : (r : RankingValue) (stack more : List Entry) (e : Entry) → more ≡ stack ++ e ∷ [] → AreEntries r stack → IsEntry r e.terms.items e.degrees.items → AreEntries r more
+entries_more r stack more e is h k = subst (AreEntries r) (sym is) (All-push (λ (e : Entry). IsEntry r e.terms.items e.degrees.items) stack e h k)
 
--- an operation on the latest value is refused
-pub one_refused : (f : Polynomial Symbol → Result (Polynomial Symbol) Refusal) (answer : Polynomials → Result Polynomials Refusal)
-    → ((a : Polynomial Symbol) (values : Polynomials) → answer (a ∷ values) ≡ onto values (f a))
-    → (old : BookValue) (latest : ℕ) (stop : PolyStop) → latest + 0 + 1 ≡ length old.polynomials → IsStop stop (f (polynomial old latest)) → IsStop stop (answer (values_in old))
-one_refused f answer same old latest stop e given =
-    let split = latest_first old.polynomials latest (omega arith) in
-    subst (λ r. IsStop stop r) (sym (ap answer split ∙ same (polynomial old latest) (reverse (take latest old.polynomials)))) (refused (f (polynomial old latest)) given)
-  where
-    refused : (r : Result (Polynomial Symbol) Refusal) → IsStop stop r → IsStop stop (onto (reverse (take latest old.polynomials)) r)
-    refused (Ok q) (inl m) = inl m
-    refused (Ok q) (inr m) = absurd cc
-    refused (Err e) m = m
+module _ (g : Symbols Symbol) where
+  -- the refusal of an operation is that of its step
+  refused : (values : Polynomials) (o : Result (Polynomial Symbol) Refusal) (stop : PolyStop) → IsStop stop o → IsStop stop (onto values o)
+  refused values (Ok q) stop (inl m) = inl m
+  refused values (Ok q) stop (inr m) = absurd cc
+  refused values (Err e) stop m = m
 
--- the same of the two latest values
-pub two_refused : (f : Polynomial Symbol → Polynomial Symbol → Result (Polynomial Symbol) Refusal) (answer : Polynomials → Result Polynomials Refusal)
-    → ((a b : Polynomial Symbol) (values : Polynomials) → answer (b ∷ a ∷ values) ≡ onto values (f a b))
-    → (old : BookValue) (first second : ℕ) (stop : PolyStop) → first + 1 + 1 ≡ length old.polynomials → second + 0 + 1 ≡ length old.polynomials
-    → IsStop stop (f (polynomial old first) (polynomial old second)) → IsStop stop (answer (values_in old))
-two_refused f answer same old first second stop e g given =
-    let split = latest_two old.polynomials first second (omega arith) (omega arith) in
-    let a = polynomial old first in
-    let b = polynomial old second in
-    subst (λ r. IsStop stop r) (sym (ap answer split ∙ same a b (reverse (take first old.polynomials)))) (refused (f a b) given)
-  where
-    refused : (r : Result (Polynomial Symbol) Refusal) → IsStop stop r → IsStop stop (onto (reverse (take first old.polynomials)) r)
-    refused (Ok q) (inl m) = inl m
-    refused (Ok q) (inr m) = absurd cc
-    refused (Err e) m = m
+  -- what a step answers at a latest value
+  at_one : (op : Op) (values below : Polynomials) (a : Polynomial Symbol) → values ≡ a ∷ below → step_answer g op values ≡ step_answer g op (a ∷ below)
+  at_one op values below a e = ap (step_answer g op) e
 
--- a polynomial that a book has more is its latest value
-pub pushed : (old new : BookValue) (p : ℕ) (q : Polynomial Symbol) → IsAdded old new p → Means new p q → values_in new ≡ q ∷ values_in old
-pushed old new p q added means = ap reverse added.last ∙ reverse-append old.polynomials (polynomial new p ∷ []) ∙ ap (λ (x : Polynomial Symbol). x ∷ values_in old) (means_polynomial new p q means)
+  -- and at two
+  at_two : (op : Op) (values mid below : Polynomials) (a b : Polynomial Symbol) → values ≡ b ∷ mid → mid ≡ a ∷ below → step_answer g op values ≡ step_answer g op (b ∷ a ∷ below)
+  at_two op values mid below a b e f = ap (step_answer g op) (e ∙ ap (λ vs. b ∷ vs) f)
 
--- a number that may be written is one of 128 bits
-pub number_stays : (z : ℤ) (n : ℕ) → n ≤ most_literal → z ≡ pos n → to_z w128 (of_z w128 z) ≡ z
-number_stays z n le e = to_z-of_z w128 z (fits_signed_from_abs w128 z (below (unsigned_abs z) (subst (λ x. unsigned_abs x ≤ most_literal) (sym e) le)))
-  where
-    below : (m : ℕ) → m ≤ most_literal → m < 2 ^ 127
-    below m h = omega arith
+  -- the power of the latest value comes in its place
+  pub power_made : (k : ℕ) (values below : Polynomials) (a p : Polynomial Symbol) → values ≡ a ∷ below → power_answer g a k ≡ Ok p → step_answer g (Power k) values ≡ Ok (p ∷ below)
+  power_made k values below a p e f = at_one (Power k) values below a e ∙ ap (onto below) f
+
+  -- or is refused
+  pub power_refused : (k : ℕ) (values below : Polynomials) (a : Polynomial Symbol) (stop : PolyStop) → values ≡ a ∷ below → IsStop stop (power_answer g a k) → IsStop stop (step_answer g (Power k) values)
+  power_refused k values below a stop e m = subst (IsStop stop) (sym (at_one (Power k) values below a e)) (refused below (power_answer g a k) stop m)
+
+  -- the sum of the two latest values comes in their place
+  pub sum_made : (values mid below : Polynomials) (a b p : Polynomial Symbol) → values ≡ b ∷ mid → mid ≡ a ∷ below → operation g (a ++ with_sign Plus b) ≡ Ok p → step_answer g Add values ≡ Ok (p ∷ below)
+  sum_made values mid below a b p e f h = at_two Add values mid below a b e f ∙ ap (λ q. onto below (operation g (a ++ q))) (sym (plus_same b)) ∙ ap (onto below) h
+
+  -- or is refused
+  pub sum_refused : (values mid below : Polynomials) (a b : Polynomial Symbol) (stop : PolyStop) → values ≡ b ∷ mid → mid ≡ a ∷ below → IsStop stop (operation g (a ++ with_sign Plus b)) → IsStop stop (step_answer g Add values)
+  sum_refused values mid below a b stop e f m =
+      subst (IsStop stop) (sym (at_two Add values mid below a b e f)) (refused below (sum_answer g a b) stop (subst (λ q. IsStop stop (operation g (a ++ q))) (plus_same b) m))
+
+  -- the difference of the two latest values comes in their place
+  pub difference_made : (values mid below : Polynomials) (a b p : Polynomial Symbol) → values ≡ b ∷ mid → mid ≡ a ∷ below → operation g (a ++ with_sign Minus b) ≡ Ok p → step_answer g Sub values ≡ Ok (p ∷ below)
+  difference_made values mid below a b p e f h = at_two Sub values mid below a b e f ∙ ap (λ q. onto below (operation g (a ++ q))) (sym (minus_negates b)) ∙ ap (onto below) h
+
+  -- or is refused
+  pub difference_refused : (values mid below : Polynomials) (a b : Polynomial Symbol) (stop : PolyStop) → values ≡ b ∷ mid → mid ≡ a ∷ below → IsStop stop (operation g (a ++ with_sign Minus b)) → IsStop stop (step_answer g Sub values)
+  difference_refused values mid below a b stop e f m =
+      subst (IsStop stop) (sym (at_two Sub values mid below a b e f)) (refused below (difference_answer g a b) stop (subst (λ q. IsStop stop (operation g (a ++ q))) (minus_negates b) m))
+
+  -- the product of the two latest values comes in their place
+  pub product_made : (values mid below : Polynomials) (a b p : Polynomial Symbol) → values ≡ b ∷ mid → mid ≡ a ∷ below → product_answer g a b ≡ Ok p → step_answer g Mul values ≡ Ok (p ∷ below)
+  product_made values mid below a b p e f h = at_two Mul values mid below a b e f ∙ ap (onto below) h
+
+  -- or is refused
+  pub product_refused : (values mid below : Polynomials) (a b : Polynomial Symbol) (stop : PolyStop) → values ≡ b ∷ mid → mid ≡ a ∷ below → IsStop stop (product_answer g a b) → IsStop stop (step_answer g Mul values)
+  product_refused values mid below a b stop e f m = subst (IsStop stop) (sym (at_two Mul values mid below a b e f)) (refused below (product_answer g a b) stop m)

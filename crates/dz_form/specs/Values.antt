@@ -1,13 +1,13 @@
 -- The value of an item (this project): its steps are folded from left to right, and each is an operation on polynomials.
-use Rattle.std.specs.Prelude.{◌≡◌, ◌≤◌, ⊤, ℕ, zero, suc, List, [], ◌∷◌, reverse, pos, Result, Ok, Err}
+use Rattle.std.specs.Prelude.{◌≤◌, ⊤, ℕ, zero, suc, All, List, [], ◌∷◌, map, reverse, pos, Result, Ok, Err}
 use Rattle.dz_algebra.specs.Polynomial.{Polynomial, polynomial_negative, symbol_polynomial}
 use Rattle.dz_algebra.specs.Size.{Refusal, difference_answer, product_answer, sum_answer}
 use Rattle.dz_algebra.specs.Symbols.{Symbols}
-use Rattle.dz_poly.specs.Books.{BookValue}
-use Rattle.dz_terms.specs.Stops.{IsStop}
-use Rattle.dz_terms.specs.declared.PolyStop.{PolyStop}
-use Rattle.dz_terms.specs.Terms.{constant_polynomial}
+use Rattle.dz_rank.specs.Rankings.{RankingValue}
 use Rattle.dz_rank.specs.declared.symbols.Symbol as rank
+use Rattle.dz_terms.specs.Entries.{IsEntry}
+use Rattle.dz_terms.specs.Terms.{constant_polynomial}
+use Rattle.dz_terms.specs.declared.entry.Entry.{Entry}
 use Rattle.dz_syntax.specs.declared.expression.Op.{Op}
 use Rattle.dz_syntax.specs.declared.expression.Op.TheVariants.{Number, Symbol, Negate, Add, Sub, Mul, Power}
 
@@ -60,9 +60,13 @@ latest (p ∷ values) = p
 unfoldable pub item_answer : Symbols rank.Symbol → List Op → Result (Polynomial rank.Symbol) Refusal
 item_answer g steps = steps_answer g steps [] >>= λ values. Ok (latest values)
 
--- the values that stand in a book, the latest first
-abbrev pub values_in : BookValue → Polynomials
-values_in book = reverse book.polynomials
+-- the values on a stack, the latest first
+abbrev pub values_of : List Entry → Polynomials
+values_of stack = reverse (map (λ e. e.terms.items) stack)
+
+-- each value on a stack may stand in a book
+abbrev pub AreEntries : RankingValue → List Entry → Type 0
+AreEntries r stack = All (λ e. IsEntry r e.terms.items e.degrees.items) stack
 
 -- a step finds the values that it uses among so many
 abbrev pub HasValues : Op → ℕ → Type 0
@@ -71,9 +75,3 @@ HasValues (Symbol v) n = ⊤
 HasValues Negate n = 1 ≤ n
 HasValues (Power k) n = 1 ≤ n
 HasValues op n = 2 ≤ n
-
--- the values in a book are what the definition answers, or the stop is its refusal; want of memory may come instead
-abbrev pub GivesValues : BookValue → Result ⊤ PolyStop → Result Polynomials Refusal → Type 0
-GivesValues new (Ok done) (Ok values) = values_in new ≡ values
-GivesValues new (Ok done) (Err e) = ⊥
-GivesValues new (Err stop) answer = IsStop stop answer

@@ -1,178 +1,276 @@
 //! The value of an item.
 //!
-//! The values that are not used yet stand at the end of the book, the latest last: what a step uses
-//! gives place to what it makes.
+//! The values that are not used yet stand on a stack, the latest last: what a step uses is taken
+//! from it, and what it makes comes on top. The book is touched once, when the value is kept.
 
-ghost use Rattle.std.specs.Prelude.{◌≡◌, ◌<◌, ◌≤◌, ⊤, reverse, length, IfOk, OnErr, OnOk};
-ghost use Rattle.dz_poly.specs.Books.{Gives, IsAdded, IsKept, Lives, polynomial};
-ghost use Rattle.dz_terms.specs.Ranked.{symbols_under};
+ghost use Rattle.std.specs.Prelude.{◌≡◌, ◌<◌, ◌∷◌, ◌++◌, [], length, Ok, IfOk, IfErr, OnErr, OnOk};
+ghost use Rattle.dz_algebra.specs.Size.{operation};
+ghost use Rattle.dz_poly.specs.Books.{Gives, IsAdded, IsKept};
+ghost use Rattle.dz_rank.specs.Rankings.{RankingValue};
 ghost use Rattle.dz_syntax.specs.Postfix.{IsExpression, IsStep};
 ghost use Rattle.dz_syntax.specs.declared.expression.Op.TheVariants as ops;
-ghost use Rattle.dz_form.specs.Values.{GivesValues, HasValues, item_answer, power_answer, step_answer, times, values_in};
+ghost use Rattle.dz_terms.specs.Entries.{IsEntry};
+ghost use Rattle.dz_terms.specs.Ranked.{symbols_under};
+ghost use Rattle.dz_terms.specs.Signs.{with_sign};
+ghost use Rattle.dz_terms.specs.Stops.{IsStop};
+ghost use Rattle.dz_form.specs.Values.{AreEntries, HasValues, item_answer, power_answer};
+ghost use Rattle.dz_form.specs.Values.{step_answer, times, values_of};
 
-use dz_poly::{Book, Poly, PolyStop, add, constant, mul, sub, symbol_poly, zero};
+use dz_poly::{Book, Poly, PolyStop};
+use dz_rank::Ranking;
+use dz_sums::{negative, sum_in_place};
 use dz_syntax::{Item, Op};
+use dz_terms::{Entry, Sign, copied, number, power, product, sum};
+use std::alloc::Global;
 
-/// The latest value gives place to its negative.
-fn negate_latest(book: &mut Book) -> Result<(), PolyStop>
-    requires { 0 < length book.old.polynomials }
-    ensures made { GivesValues book.new result
-        (step_answer (symbols_under book.old.ranking) ops.Negate (values_in book.old)) }
-    ensures ranking { OnOk result (book.new.ranking ≡ book.old.ranking) }
-    ensures refused { OnErr result (book.new ≡ book.old) }
+#[tactic(auto, using(crate::proofs::Stacks::values_more, crate::proofs::Stacks::entry_taken, crate::proofs::Stacks::entries_left))]
+/// Takes the latest value from the stack.
+fn take_latest(values: &mut Vec<Entry>) -> Entry
+    requires { 0 < length values.old.items }
+    ensures items { values.old.items ≡ values.new.items ++ result ∷ [] }
+    ensures value { values_of values.old.items
+        ≡ result.terms.items ∷ values_of values.new.items }
+    ensures entry { (r : RankingValue) → AreEntries r values.old.items
+        → IsEntry r result.terms.items result.degrees.items }
+    ensures entries { (r : RankingValue) → AreEntries r values.old.items
+        → AreEntries r values.new.items }
 {
-    book.opened();
-    let latest = book.latest(0);
-    let mark = book.mark();
-    let nothing = zero(book)?;
-    match sub(book, nothing, latest) {
-        Ok(negative) => {
-            book.restore_but(book.mark_before(latest), negative);
-            Ok(())
-        }
-        Err(stop) => {
-            book.restore(mark);
-            Err(stop)
-        }
+    match values.pop() {
+        Some(value) => value,
+        None => unreachable!(),
     }
 }
 
-/// The two latest values give place to their sum.
-fn add_latest(book: &mut Book) -> Result<(), PolyStop>
-    requires { 1 < length book.old.polynomials }
-    ensures made { GivesValues book.new result
-        (step_answer (symbols_under book.old.ranking) ops.Add (values_in book.old)) }
-    ensures ranking { OnOk result (book.new.ranking ≡ book.old.ranking) }
-    ensures refused { OnErr result (book.new ≡ book.old) }
+/// Takes the latest value; nothing is copied to make its negative.
+fn negate_latest(values: &mut Vec<Entry>) -> Entry
+    requires { 0 < length values.old.items }
+    ensures made { (r : RankingValue) → step_answer (symbols_under r) ops.Negate
+        (values_of values.old.items) ≡ Ok (result.terms.items ∷ values_of values.new.items) }
+    ensures entry { (r : RankingValue) → AreEntries r values.old.items
+        → IsEntry r result.terms.items result.degrees.items }
+    ensures entries { (r : RankingValue) → AreEntries r values.old.items
+        → AreEntries r values.new.items }
 {
-    let (first, second) = (book.latest(1), book.latest(0));
-    let sum = add(book, first, second)?;
-    book.restore_but(book.mark_before(first), sum);
-    Ok(())
+    negative(take_latest(values))
 }
 
-/// The two latest values give place to the first less the second.
-fn subtract_latest(book: &mut Book) -> Result<(), PolyStop>
-    requires { 1 < length book.old.polynomials }
-    ensures made { GivesValues book.new result
-        (step_answer (symbols_under book.old.ranking) ops.Sub (values_in book.old)) }
-    ensures ranking { OnOk result (book.new.ranking ≡ book.old.ranking) }
-    ensures refused { OnErr result (book.new ≡ book.old) }
+/// The sum of two polynomials, the second taken with a sign. A term more is put into the first in
+/// place, so that a long sum is not copied at each of its terms.
+fn summed(
+    alloc: Global,
+    ranking: &Ranking,
+    first: Entry,
+    sign: Sign,
+    second: Entry,
+) -> Result<Entry, PolyStop>
+    requires first { IsEntry ranking.now first.terms.items first.degrees.items }
+    requires second { IsEntry ranking.now second.terms.items second.degrees.items }
+    ensures ok { IfOk result (λ sum. operation (symbols_under ranking.now)
+        (first.terms.items ++ with_sign sign second.terms.items) ≡ Ok sum.terms.items) }
+    ensures entry { IfOk result (λ sum.
+        IsEntry ranking.now sum.terms.items sum.degrees.items) }
+    ensures refused { IfErr result (λ e. IsStop e (operation (symbols_under ranking.now)
+        (first.terms.items ++ with_sign sign second.terms.items))) }
 {
-    let (first, second) = (book.latest(1), book.latest(0));
-    let difference = sub(book, first, second)?;
-    book.restore_but(book.mark_before(first), difference);
-    Ok(())
-}
-
-/// The two latest values give place to their product.
-fn multiply_latest(book: &mut Book) -> Result<(), PolyStop>
-    requires { 1 < length book.old.polynomials }
-    ensures made { GivesValues book.new result
-        (step_answer (symbols_under book.old.ranking) ops.Mul (values_in book.old)) }
-    ensures ranking { OnOk result (book.new.ranking ≡ book.old.ranking) }
-    ensures refused { OnErr result (book.new ≡ book.old) }
-{
-    let (first, second) = (book.latest(1), book.latest(0));
-    let product = mul(book, first, second)?;
-    book.restore_but(book.mark_before(first), product);
-    Ok(())
-}
-
-/// A polynomial times itself, so often, from left to right.
-fn times(book: &mut Book, base: Poly, count: u16) -> Result<Poly, PolyStop>
-    requires { Lives book.old base }
-    ensures value { Gives book.new result (times (symbols_under book.old.ranking)
-        (polynomial book.old base) count (polynomial book.old base)) }
-    ensures no_older { IfOk result (λ p. base ≤ p) }
-    ensures kept { OnOk result (IsKept book.old book.new) }
-    ensures refused { OnErr result (book.new ≡ book.old) }
-{
-    let mark = book.mark();
-    let mut product = base;
-    'factors: for _ in 0..count {
-        match mul(book, product, base) {
-            Ok(next) => product = book.restore_but(mark, next),
-            Err(stop) => {
-                book.restore(mark);
-                return Err(stop);
-            }
-        }
+    if second.term_count() == 1 {
+        return sum_in_place(alloc, ranking, first, sign, second);
     }
+    sum(alloc, ranking, &first, sign, &second)
+}
+
+/// Takes the two latest values, and makes their sum.
+fn add_latest(alloc: Global, ranking: &Ranking, values: &mut Vec<Entry>) -> Result<Entry, PolyStop>
+    requires enough { 1 < length values.old.items }
+    requires entries { AreEntries ranking.now values.old.items }
+    ensures made { IfOk result (λ e. step_answer (symbols_under ranking.now) ops.Add
+        (values_of values.old.items) ≡ Ok (e.terms.items ∷ values_of values.new.items)) }
+    ensures entry { IfOk result (λ e. IsEntry ranking.now e.terms.items e.degrees.items) }
+    ensures entries { AreEntries ranking.now values.new.items }
+    ensures refused { IfErr result (λ stop. IsStop stop
+        (step_answer (symbols_under ranking.now) ops.Add (values_of values.old.items))) }
+{
+    let second = take_latest(values);
+    let first = take_latest(values);
+    let sum = summed(alloc, ranking, first, Sign::Plus, second)?;
+    Ok(sum)
+}
+
+#[tactic(auto, using(crate::proofs::Stacks::difference_made, crate::proofs::Stacks::difference_refused))]
+/// Takes the two latest values, and makes the first less the second.
+fn subtract_latest(
+    alloc: Global,
+    ranking: &Ranking,
+    values: &mut Vec<Entry>,
+) -> Result<Entry, PolyStop>
+    requires enough { 1 < length values.old.items }
+    requires entries { AreEntries ranking.now values.old.items }
+    ensures made { IfOk result (λ e. step_answer (symbols_under ranking.now) ops.Sub
+        (values_of values.old.items) ≡ Ok (e.terms.items ∷ values_of values.new.items)) }
+    ensures entry { IfOk result (λ e. IsEntry ranking.now e.terms.items e.degrees.items) }
+    ensures entries { AreEntries ranking.now values.new.items }
+    ensures refused { IfErr result (λ stop. IsStop stop
+        (step_answer (symbols_under ranking.now) ops.Sub (values_of values.old.items))) }
+{
+    let second = take_latest(values);
+    let first = take_latest(values);
+    let difference = summed(alloc, ranking, first, Sign::Minus, second)?;
+    Ok(difference)
+}
+
+#[tactic(auto, using(crate::proofs::Stacks::product_made, crate::proofs::Stacks::product_refused))]
+/// Takes the two latest values, and makes their product.
+fn multiply_latest(
+    alloc: Global,
+    ranking: &Ranking,
+    values: &mut Vec<Entry>,
+) -> Result<Entry, PolyStop>
+    requires enough { 1 < length values.old.items }
+    requires entries { AreEntries ranking.now values.old.items }
+    ensures made { IfOk result (λ e. step_answer (symbols_under ranking.now) ops.Mul
+        (values_of values.old.items) ≡ Ok (e.terms.items ∷ values_of values.new.items)) }
+    ensures entry { IfOk result (λ e. IsEntry ranking.now e.terms.items e.degrees.items) }
+    ensures entries { AreEntries ranking.now values.new.items }
+    ensures refused { IfErr result (λ stop. IsStop stop
+        (step_answer (symbols_under ranking.now) ops.Mul (values_of values.old.items))) }
+{
+    let second = take_latest(values);
+    let first = take_latest(values);
+    let product = product(alloc, ranking, &first, &second)?;
     Ok(product)
 }
 
+#[tactic(auto, using(crate::proofs::Times::times_more, crate::proofs::Times::times_done, crate::proofs::Times::times_refused))]
+/// A polynomial times itself, so often, from left to right.
+fn times(alloc: Global, ranking: &Ranking, base: &Entry, count: u16) -> Result<Entry, PolyStop>
+    requires { IsEntry ranking.now base.now.terms.items base.now.degrees.items }
+    ensures ok { IfOk result (λ e. times (symbols_under ranking.now)
+        base.now.terms.items count base.now.terms.items ≡ Ok e.terms.items) }
+    ensures entry { IfOk result (λ e. IsEntry ranking.now e.terms.items e.degrees.items) }
+    ensures refused { IfErr result (λ stop. IsStop stop (times (symbols_under ranking.now)
+        base.now.terms.items count base.now.terms.items)) }
+{
+    let mut all = copied(alloc, base)?;
+    'factors: for _ in 0..count {
+        all = product(alloc, ranking, &all, base)?;
+    }
+    Ok(all)
+}
+
+#[tactic(auto, using(crate::proofs::Times::power_is, crate::proofs::Times::one_power))]
 /// The power of a polynomial.
-fn power(book: &mut Book, base: Poly, exponent: u16) -> Result<Poly, PolyStop>
-    requires { Lives book.old base }
-    ensures value { Gives book.new result
-        (power_answer (symbols_under book.old.ranking) (polynomial book.old base) exponent) }
-    ensures no_older { IfOk result (λ p. base ≤ p) }
-    ensures kept { OnOk result (IsKept book.old book.new) }
-    ensures refused { OnErr result (book.new ≡ book.old) }
+fn raised(alloc: Global, ranking: &Ranking, base: &Entry, exponent: u16) -> Result<Entry, PolyStop>
+    requires { IsEntry ranking.now base.now.terms.items base.now.degrees.items }
+    ensures ok { IfOk result (λ e. power_answer (symbols_under ranking.now)
+        base.now.terms.items exponent ≡ Ok e.terms.items) }
+    ensures entry { IfOk result (λ e. IsEntry ranking.now e.terms.items e.degrees.items) }
+    ensures refused { IfErr result (λ stop. IsStop stop (power_answer (symbols_under ranking.now)
+        base.now.terms.items exponent)) }
 {
     if exponent == 0 {
-        let one = constant(book, 1)?;
+        let one = number(alloc, 1)?;
         return Ok(one);
     }
-    let power = times(book, base, exponent - 1)?;
+    let power = times(alloc, ranking, base, exponent - 1)?;
     Ok(power)
 }
 
-/// The latest value gives place to its power.
-fn power_latest(book: &mut Book, exponent: u16) -> Result<(), PolyStop>
-    requires { 0 < length book.old.polynomials }
-    ensures made { GivesValues book.new result
-        (step_answer (symbols_under book.old.ranking) (ops.Power exponent) (values_in book.old)) }
-    ensures ranking { OnOk result (book.new.ranking ≡ book.old.ranking) }
-    ensures refused { OnErr result (book.new ≡ book.old) }
+#[tactic(auto, using(crate::proofs::Stacks::power_made, crate::proofs::Stacks::power_refused))]
+/// Takes the latest value, and makes its power.
+fn raise_latest(
+    alloc: Global,
+    ranking: &Ranking,
+    values: &mut Vec<Entry>,
+    exponent: u16,
+) -> Result<Entry, PolyStop>
+    requires enough { 0 < length values.old.items }
+    requires entries { AreEntries ranking.now values.old.items }
+    ensures made { IfOk result (λ e. step_answer (symbols_under ranking.now) (ops.Power exponent)
+        (values_of values.old.items) ≡ Ok (e.terms.items ∷ values_of values.new.items)) }
+    ensures entry { IfOk result (λ e. IsEntry ranking.now e.terms.items e.degrees.items) }
+    ensures entries { AreEntries ranking.now values.new.items }
+    ensures refused { IfErr result (λ stop. IsStop stop (step_answer (symbols_under ranking.now)
+        (ops.Power exponent) (values_of values.old.items))) }
 {
-    let base = book.latest(0);
-    let power = power(book, base, exponent)?;
-    book.restore_but(book.mark_before(base), power);
-    Ok(())
+    let base = take_latest(values);
+    let power = raised(alloc, ranking, &base, exponent)?;
+    Ok(power)
 }
 
-/// Does one step.
-fn step(book: &mut Book, op: Op) -> Result<(), PolyStop>
-    requires fits { IsStep book.old.ranking.signature op }
-    requires enough { HasValues op (length book.old.polynomials) }
-    ensures made { GivesValues book.new result
-        (step_answer (symbols_under book.old.ranking) op (values_in book.old)) }
-    ensures ranking { OnOk result (book.new.ranking ≡ book.old.ranking) }
-    ensures refused { OnErr result (book.new ≡ book.old) }
+/// What a step makes of the latest values, which are taken.
+fn made(
+    alloc: Global,
+    ranking: &Ranking,
+    values: &mut Vec<Entry>,
+    op: Op,
+) -> Result<Entry, PolyStop>
+    requires fits { IsStep ranking.now.signature op }
+    requires enough { HasValues op (length values.old.items) }
+    requires entries { AreEntries ranking.now values.old.items }
+    ensures made { IfOk result (λ e. step_answer (symbols_under ranking.now) op
+        (values_of values.old.items) ≡ Ok (e.terms.items ∷ values_of values.new.items)) }
+    ensures entry { IfOk result (λ e. IsEntry ranking.now e.terms.items e.degrees.items) }
+    ensures entries { AreEntries ranking.now values.new.items }
+    ensures refused { IfErr result (λ stop. IsStop stop
+        (step_answer (symbols_under ranking.now) op (values_of values.old.items))) }
 {
     match op {
-        Op::Number(number) => {
-            constant(book, number)?;
-            Ok(())
+        Op::Number(value) => {
+            let constant = number(alloc, value)?;
+            Ok(constant)
         }
         Op::Symbol(symbol) => {
-            symbol_poly(book, symbol)?;
-            Ok(())
+            let variable = power(alloc, 1, symbol, 1)?;
+            Ok(variable)
         }
-        Op::Negate => negate_latest(book),
-        Op::Power(exponent) => power_latest(book, exponent),
-        Op::Add => add_latest(book),
-        Op::Sub => subtract_latest(book),
-        Op::Mul => multiply_latest(book),
+        Op::Negate => Ok(negate_latest(values)),
+        Op::Power(exponent) => raise_latest(alloc, ranking, values, exponent),
+        Op::Add => add_latest(alloc, ranking, values),
+        Op::Sub => subtract_latest(alloc, ranking, values),
+        Op::Mul => multiply_latest(alloc, ranking, values),
     }
 }
 
+#[tactic(auto, using(crate::proofs::Stacks::values_more, crate::proofs::Stacks::entries_more))]
+/// Does one step.
+fn step(alloc: Global, ranking: &Ranking, values: &mut Vec<Entry>, op: Op) -> Result<(), PolyStop>
+    requires fits { IsStep ranking.now.signature op }
+    requires enough { HasValues op (length values.old.items) }
+    requires entries { AreEntries ranking.now values.old.items }
+    ensures made { OnOk result (step_answer (symbols_under ranking.now) op
+        (values_of values.old.items) ≡ Ok (values_of values.new.items)) }
+    ensures entries { OnOk result (AreEntries ranking.now values.new.items) }
+    ensures refused { IfErr result (λ stop. IsStop stop
+        (step_answer (symbols_under ranking.now) op (values_of values.old.items))) }
+{
+    let value = made(alloc, ranking, values, op)?;
+    values.push(value)?;
+    Ok(())
+}
+
+/// The value of an item as an entry.
+fn value_of(alloc: Global, ranking: &Ranking, item: &Item) -> Result<Entry, PolyStop>
+    requires { IsExpression ranking.now.signature item.now }
+    ensures ok { IfOk result (λ e.
+        item_answer (symbols_under ranking.now) item.now ≡ Ok e.terms.items) }
+    ensures entry { IfOk result (λ e. IsEntry ranking.now e.terms.items e.degrees.items) }
+    ensures refused { IfErr result (λ stop. IsStop stop
+        (item_answer (symbols_under ranking.now) item.now)) }
+{
+    let mut values = Vec::new(alloc);
+    'steps: for op in item.steps() {
+        step(alloc, ranking, &mut values, *op)?;
+    }
+    Ok(take_latest(&mut values))
+}
+
 /// The value of an item, or the refusal of the first of its operations that is refused.
-pub fn expand(book: &mut Book, item: &Item) -> Result<Poly, PolyStop>
+pub fn expand(alloc: Global, book: &mut Book, item: &Item) -> Result<Poly, PolyStop>
     requires { IsExpression book.old.ranking.signature item.now }
     ensures value { Gives book.new result (item_answer (symbols_under book.old.ranking) item.now) }
     ensures kept { OnOk result (IsKept book.old book.new) }
     ensures added { IfOk result (λ p. IsAdded book.old book.new p) }
     ensures refused { OnErr result (book.new ≡ book.old) }
 {
-    let mark = book.mark();
-    'steps: for op in item.steps() {
-        if let Err(stop) = step(book, *op) {
-            book.restore(mark);
-            return Err(stop);
-        }
-    }
-    Ok(book.latest(0))
+    let value = value_of(alloc, book.ranking(), item)?;
+    Ok(book.keep(value)?)
 }

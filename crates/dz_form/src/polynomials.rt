@@ -87,6 +87,6 @@ pub fn read_poly(
 {
     names.opened();
     let item = read_item(alloc, names, bytes)?;
-    let poly = expand(book, &item)?;
+    let poly = expand(alloc, book, &item)?;
     Ok(poly)
 }

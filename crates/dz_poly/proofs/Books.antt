@@ -1,12 +1,12 @@
 -- Books that only grow.
 use Rattle.std.proofs.Common.{◌≡◌, ◌<◌, ◌≤◌, ◌∙◌, sym, ap, ℕ, zero, suc, List, [], ◌∷◌, ◌++◌, length, take, arith, refl}
-use Rattle.std.specs.Prelude.{slice_get, slice_index_or, slice_set, Some, map, swap, ◌+◌}
-use Rattle.std.proofs.lemmas.List.{length-append, length-set, take_all, take_at, take-set-le, take_more, map-append, take-map, get_or-map}
+use Rattle.std.specs.Prelude.{slice_get, slice_index_or, Some, map, ◌+◌}
+use Rattle.std.proofs.lemmas.List.{length-append, take_all, take_at}
 use Rattle.dz_algebra.specs.Polynomial.{Polynomial}
 use Rattle.dz_rank.specs.declared.symbols.Symbol.{Symbol}
 use Rattle.dz_rank.specs.Rankings.{RankingValue}
 use Rattle.std.specs.Prelude.{All}
-use Rattle.std.proofs.lemmas.List.Elements.{All-map, All-set, All-weaker}
+use Rattle.std.proofs.lemmas.List.Elements.{All-map, All-weaker}
 use Rattle.dz_terms.specs.declared.entry.Entry.{Entry}
 use Rattle.dz_poly.specs.Books.{BookValue, IsKept, IsBook, Lives, Means, polynomial}
 use Rattle.dz_terms.specs.Entries.{IsKeepable}
@@ -25,29 +25,6 @@ IsKept-append r old more = record { ranking = refl; each = λ p h. slice_get-app
 pub last_get : {X Y : Type 0} (f : X → Y) (xs : List X) (x : X) → slice_get (map f (xs ++ x ∷ [])) (length xs) ≡ Some (f x)
 last_get f [] x = refl
 last_get f (y ∷ xs) x = last_get f xs x
-
--- the list up to a place is as before where two elements from that place on change places
-swapped_front : {X : Type 0} (xs : List X) (i j : ℕ) → i ≤ j → take i (swap xs i j) ≡ take i xs
-swapped_front [] i j le = refl
-swapped_front (x ∷ xs) i j le = take-set-le i (slice_set (x ∷ xs) i (slice_index_or (x ∷ xs) j x)) j (slice_index_or (x ∷ xs) i x) le ∙ take-set-le i (x ∷ xs) i (slice_index_or (x ∷ xs) j x) (omega arith)
-
--- what holds of all elements holds of them where two change places
-pub all_swapped : {X : Type 0} (P : X → Type 0) (xs : List X) (i j : ℕ) → i < length xs → j < length xs → All P xs → All P (swap xs i j)
-all_swapped P [] i j l m h = h
-all_swapped P (x ∷ xs) i j l m h = All-set P (slice_set (x ∷ xs) i (slice_index_or (x ∷ xs) j x)) j (slice_index_or (x ∷ xs) i x) (h i x l) (All-set P (x ∷ xs) i (slice_index_or (x ∷ xs) j x) (h j x m) h)
-
--- what stands up to a place where a later element has come, seen through a function
-pub one_left : {X Y : Type 0} (f : X → Y) (e : Y) (xs ys : List X) (i j : ℕ) → i ≤ j → j < length xs → ys ≡ swap xs i j
-    → ((d : X) → slice_index_or ys i d ≡ slice_index_or xs j d) → map f (take (i + 1) ys) ≡ take i (map f xs) ++ slice_index_or (map f xs) j e ∷ []
-one_left f e [] ys i j le lt swapped moved = absurd (omega arith)
-one_left {X} {Y} f e (x ∷ xs) ys i j le lt swapped moved =
-    let len : length ys ≡ length (x ∷ xs) = ap length swapped ∙ length-set (slice_set (x ∷ xs) i (slice_index_or (x ∷ xs) j x)) j (slice_index_or (x ∷ xs) i x) ∙ length-set (x ∷ xs) i (slice_index_or (x ∷ xs) j x) in
-    let front : take i ys ≡ take i (x ∷ xs) = ap (take i) swapped ∙ swapped_front (x ∷ xs) i j le in
-    let whole : take (i + 1) ys ≡ take i (x ∷ xs) ++ slice_index_or (x ∷ xs) j x ∷ [] =
-    take_more ys i x (omega arith) ∙ ap (λ (zs : List X). zs ++ slice_index_or ys i x ∷ []) front ∙ ap (λ (z : X). take i (x ∷ xs) ++ z ∷ []) (moved x) in
-    ap (map f) whole ∙ map-append f (take i (x ∷ xs)) (slice_index_or (x ∷ xs) j x ∷ [])
-    ∙ ap (λ (zs : List Y). zs ++ f (slice_index_or (x ∷ xs) j x) ∷ []) (sym (take-map f i (x ∷ xs)))
-    ∙ ap (λ (z : Y). take i (map f (x ∷ xs)) ++ z ∷ []) (sym (get_or-map f (x ∷ xs) j x e lt))
 
 -- entries make a book
 pub book_of : (r : RankingValue) (es : List Entry) → All (λ e. IsEntry r e.terms.items e.degrees.items) es → IsBook (record { ranking = r; polynomials = map (λ e. e.terms.items) es })

@@ -68,7 +68,7 @@ impl Model for Book {
 }
 
 impl Book {
-    ghost use Rattle.std.specs.Prelude.{◌≡◌, ◌≤◌, ◌<◌, ◌+◌, ◌++◌, ◌∷◌, [], length, take};
+    ghost use Rattle.std.specs.Prelude.{◌≡◌, ◌≤◌, [], length, take};
     ghost use Rattle.std.specs.Prelude.{IfOk, OnOk, OnErr};
     ghost use Rattle.dz_poly.specs.Books.{BookValue, IsAdded, IsBook, IsKept, Lives, Means};
     ghost use Rattle.dz_poly.specs.Books.{polynomial};
@@ -117,39 +117,6 @@ impl Book {
         } }
     {
         self.entries.truncate(mark.count);
-    }
-
-    /// The mark of the polynomials that were made before this one.
-    pub fn mark_before(&self, p: Poly) -> BookMark
-        ensures { result ≡ p }
-    {
-        BookMark { count: p.index }
-    }
-
-    /// The polynomial that was made last, not counting so many that were made after it.
-    pub fn latest(&self, after: usize) -> Poly
-        requires { after < length self.now.polynomials }
-        ensures { result + after + 1 ≡ length self.now.polynomials }
-    {
-        Poly {
-            index: self.entries.len() - 1 - after,
-        }
-    }
-
-    /// Gives up the polynomials that were made after the mark but for one, which has a new name
-    /// from now on; the older ones are as before.
-    pub fn restore_but(&mut self, mark: BookMark, p: Poly) -> Poly
-        requires made_after { mark ≤ p }
-        requires lives { Lives self.old p }
-        ensures book { self.new ≡ record {
-          ranking = self.old.ranking;
-          polynomials = take mark self.old.polynomials ++ polynomial self.old p ∷ [];
-        } }
-        ensures name { result ≡ mark }
-    {
-        self.entries.swap(mark.count, p.index);
-        self.entries.truncate(mark.count + 1);
-        Poly { index: mark.count }
     }
 
     /// The allocator that was handed to `new`.

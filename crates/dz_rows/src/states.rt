@@ -34,7 +34,7 @@ fn values(alloc: Global, book: &mut Book, items: &[Item]) -> Option<Vec<Poly>>
 {
     let mut values = Vec::new(alloc);
     'items: for index in 0..items.len() {
-        let value = expand(book, &items[index]).ok()?;
+        let value = expand(alloc, book, &items[index]).ok()?;
         values.push(value).ok()?;
     }
     Some(values)

@@ -65,12 +65,18 @@ impl<T: Drop> From<AllocFailed<T>> for Stop {
 }
 
 /// The value of the item with this number in its group.
-fn expand_numbered(book: &mut Book, group: Group, number: usize, item: &Item) -> Result<Poly, Stop>
+fn expand_numbered(
+    alloc: Global,
+    book: &mut Book,
+    group: Group,
+    number: usize,
+    item: &Item,
+) -> Result<Poly, Stop>
     requires { IsExpression book.old.ranking.signature item.now }
     ensures value { GivesNumbered book.new result (numbered group number (item_answer (symbols_under book.old.ranking) item.now)) }
     ensures kept { OnOk result (IsKept book.old book.new) }
 {
-    match expand(book, item) {
+    match expand(alloc, book, item) {
         Ok(p) => Ok(p),
         Err(PolyStop::Memory) => Err(Stop::Memory),
         Err(PolyStop::Wide) => Err(Stop::Refused(Refused::Wide(group, number))),
@@ -91,7 +97,7 @@ fn expand_items(
 {
     let mut polys = Vec::new(alloc);
     'items: for index in 0..items.len() {
-        let p = expand_numbered(book, group, index + 1, &items[index])?;
+        let p = expand_numbered(alloc, book, group, index + 1, &items[index])?;
         polys.push(p)?;
     }
     Ok(polys)

@@ -31,9 +31,9 @@ pub use dividing::{common_content, content_of, divided_entry, first_sign, into_n
 pub use dz_algebra::Limit;
 pub use entry::Entry;
 pub use factors::factor;
-pub use finish::{Support, conclude};
+pub use finish::{Support, conclude, limit_of_size};
 pub use making::{number, power};
-pub use powers::{Powers, exponent_of, multiply, with_exponent};
+pub use powers::{Powers, compare_monomials, exponent_of, multiply, with_exponent};
 pub use products::product;
 pub use same::{same_entries, same_terms};
 use std::alloc::{AllocError, AllocFailed};

@@ -1,13 +1,18 @@
-use Rattle.std.proofs.Common.{refl}
-use Rattle.dz_algebra.specs.Size.{sum_answer}
+use Rattle.std.proofs.lemmas.Result.{err_from_is_err_and}
 use Rattle.dz_terms.specs.Ranked.{symbols_under}
-use Rattle.dz_syntax.specs.declared.expression.Op.TheVariants as ops
-use Rattle.dz_form.specs.Values.{step_answer}
-use Rattle.dz_form.proofs.Stacks.{two_replaced}
+use Rattle.dz_form.proofs.Stacks.{sum_made, sum_refused}
 use Rattle.dz_form.proofs.expansion.add_latest.Goals as goal
 
+pub returns-in_err-sum-clause-entries : goal.returns-in_err-sum-clause-entries
+returns-in_err-sum-clause-entries c = c.take_latest-first.ensures.entries c.args.ranking.now (c.take_latest-second.ensures.entries c.args.ranking.now c.requires.entries)
+
+pub returns-in_err-sum-clause-refused : goal.returns-in_err-sum-clause-refused
+returns-in_err-sum-clause-refused c =
+    let y = err_from_is_err_and c.from_residual.result c.from_residual.ensures.1 in
+    rw (y.1, y.2) (sum_refused (symbols_under c.args.ranking.now) _ _ _ _ _ _ c.take_latest-second.ensures.value c.take_latest-first.ensures.value c.in_err-sum.ensures.refused)
+
 pub returns-clause-made : goal.returns-clause-made
-returns-clause-made c =
-    let g = symbols_under c.args.book.now.ranking in
-    two_replaced (sum_answer g) (step_answer g ops.Add) (λ a b values. refl) c.args.book.now c.add.new.book c.restore_but.new.self c.latest-first.result c.latest-second.result c.in_ok-sum.sum
-    c.latest-first.ensures c.latest-second.ensures c.in_ok-sum.ensures.kept c.in_ok-sum.ensures.sum (rw (← c.mark_before.ensures) c.restore_but.ensures.book)
+returns-clause-made c = sum_made (symbols_under c.args.ranking.now) _ _ _ _ _ _ c.take_latest-second.ensures.value c.take_latest-first.ensures.value c.in_ok-sum.ensures.ok
+
+pub returns-clause-entries : goal.returns-clause-entries
+returns-clause-entries c = c.take_latest-first.ensures.entries c.args.ranking.now (c.take_latest-second.ensures.entries c.args.ranking.now c.requires.entries)

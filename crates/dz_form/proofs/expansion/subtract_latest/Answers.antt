@@ -1,13 +1,7 @@
-use Rattle.std.proofs.Common.{refl}
-use Rattle.dz_algebra.specs.Size.{difference_answer}
-use Rattle.dz_terms.specs.Ranked.{symbols_under}
-use Rattle.dz_syntax.specs.declared.expression.Op.TheVariants as ops
-use Rattle.dz_form.specs.Values.{step_answer}
-use Rattle.dz_form.proofs.Stacks.{two_replaced}
 use Rattle.dz_form.proofs.expansion.subtract_latest.Goals as goal
 
-pub returns-clause-made : goal.returns-clause-made
-returns-clause-made c =
-    let g = symbols_under c.args.book.now.ranking in
-    two_replaced (difference_answer g) (step_answer g ops.Sub) (λ a b values. refl) c.args.book.now c.sub.new.book c.restore_but.new.self c.latest-first.result c.latest-second.result c.in_ok-difference.difference
-    c.latest-first.ensures c.latest-second.ensures c.in_ok-difference.ensures.kept c.in_ok-difference.ensures.difference (rw (← c.mark_before.ensures) c.restore_but.ensures.book)
+pub returns-in_err-difference-clause-entries : goal.returns-in_err-difference-clause-entries
+returns-in_err-difference-clause-entries c = c.take_latest-first.ensures.entries c.args.ranking.now (c.take_latest-second.ensures.entries c.args.ranking.now c.requires.entries)
+
+pub returns-clause-entries : goal.returns-clause-entries
+returns-clause-entries c = c.take_latest-first.ensures.entries c.args.ranking.now (c.take_latest-second.ensures.entries c.args.ranking.now c.requires.entries)

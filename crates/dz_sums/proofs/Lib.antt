@@ -1,0 +1,4 @@
+pub mod Searching
+pub mod Changes
+pub mod Answers
+pub mod Negated
