@@ -143,25 +143,25 @@ holds_in book h few s stands facts budget w low = let o = state_over book h s st
 -- ---- a full run that ends
 -- its end is known
 pub known_end : (g : Setting) (s : State) (members : Members) (i left : ℕ) (p : Polynomial Symbol) (steps : List Step) (x : RunEnd) → at_place i (members_of members s) ≡ Some p → full_run g s (role_in members i) left p ≡ finished steps (x.end).terms.items x.count → x.count < 2 ^ 32
-    → IsKnownEnd g s (run_action members i steps) x
-known_end g s Equations i left p steps x there e few = record {
+    → (terms : ℕ) → IsKnownEnd g s (run_action members i steps) (record { terms = terms; run = x })
+known_end g s Equations i left p steps x there e few terms = record {
   count = x.count;
   is = ap (λ o. given o (0, rule rules.Place) >>= (λ f. told_as run_fault (run g s (Equation i) f steps))) there ∙ ap (told_as run_fault) (full_run_is_run g s (Equation i) left p steps (x.end).terms.items x.count e).0;
   counted = omega (arith, few);
 }
-known_end g s Inequations i left p steps x there e few = record {
+known_end g s Inequations i left p steps x there e few terms = record {
   count = x.count;
   is = ap (λ o. given o (0, rule rules.Place) >>= (λ f. told_as run_fault (run g s (Inequation i) f steps))) there ∙ ap (told_as run_fault) (full_run_is_run g s (Inequation i) left p steps (x.end).terms.items x.count e).0;
   counted = omega (arith, few);
 }
 
 -- so it is named with it
-pub known_named : (g : Setting) (budget w left : ℕ) (s : State) (members : Members) (i : ℕ) (p : Polynomial Symbol) (steps : List Step) (next : Next) (x : RunEnd) → action_of next ≡ run_action members i steps → IsAction next → at_place i (members_of members s) ≡ Some p
-    → IsCoursed (courses.Ended steps x) (full_run g s (role_in members i) left p) → IsNamed g budget w s (Known next x) (by_course g budget w s (run_action members i) (full_run g s (role_in members i) left p))
-known_named g budget w left s members i p steps next x e h there k = (
+pub known_named : (g : Setting) (budget w left : ℕ) (s : State) (members : Members) (i : ℕ) (p : Polynomial Symbol) (steps : List Step) (next : Next) (x : RunEnd) (terms : ℕ) → action_of next ≡ run_action members i steps → IsAction next → at_place i (members_of members s) ≡ Some p
+    → IsCoursed (courses.Ended steps x) (full_run g s (role_in members i) left p) → IsNamed g budget w s (Known next (record { terms = terms; run = x })) (by_course g budget w s (run_action members i) (full_run g s (role_in members i) left p))
+known_named g budget w left s members i p steps next x terms e h there k = (
   ap (by_course g budget w s (run_action members i)) k.0 ∙ ap (plain g budget w s) (sym e),
   h,
-  subst (λ a. IsKnownEnd g s a x) (sym e) (known_end g s members i left p steps x there k.0 k.1),
+  subst (λ a. IsKnownEnd g s a (record { terms = terms; run = x })) (sym e) (known_end g s members i left p steps x there k.0 k.1 terms),
 )
 
 -- ---- answers

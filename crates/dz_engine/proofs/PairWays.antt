@@ -1,5 +1,6 @@
 -- The rule of pairs on its way: one pair after the other.
-use Rattle.std.proofs.Common.{◌≡◌, ℕ, zero, suc, ◌+◌, ◌-◌, ◌≤◌, ◌<◌, nat_le, nat_lt, Bool, true, false, cond, List, [], ◌∷◌, ◌++◌, length, map, drop, slice_index_or, refl, sym, ap, subst, ◌∙◌, Some, None, Result, Ok, Err, inl, inr, arith, is_ok}
+use Rattle.std.specs.Prelude.{is_some}
+use Rattle.std.proofs.Common.{◌≡◌, ℕ, zero, suc, ◌+◌, ◌-◌, ◌^◌, ◌≤◌, ◌<◌, nat_le, nat_lt, Bool, true, false, cond, List, [], ◌∷◌, ◌++◌, length, map, drop, slice_index_or, refl, sym, ap, subst, ◌∙◌, Some, None, Result, Ok, Err, inl, inr, arith, is_ok}
 use Rattle.std.proofs.lemmas.Bool.{ltb-true}
 use Rattle.dz_algebra.specs.declared.Limit.{Limit}
 use Rattle.dz_algebra.specs.Polynomial.{Polynomial}
@@ -10,13 +11,15 @@ use Rattle.dz_terms.specs.Stops.{IsStop}
 use Rattle.dz_terms.specs.declared.PolyStop.TheVariants as stops
 use Rattle.dz_diff.specs.Lists.{AllOf}
 use Rattle.dz_diff.specs.Operations.{Setting}
-use Rattle.dz_diff.specs.Outcome.{told_as}
+use Rattle.dz_diff.specs.Outcome.{◌>>=◌, numbered, told_as}
 use Rattle.dz_diff.specs.State.{State, at_place}
 use Rattle.dz_diff.specs.Tests.{is_zero}
 use Rattle.dz_diff.proofs.Answers.{bind_ok, ok_same, then_ok, told_ok}
 use Rattle.dz_step.specs.declared.Role.TheVariants.{Free}
 use Rattle.dz_step.specs.declared.Step.{Step}
 use Rattle.dz_step.specs.FullRun.{Course, finished, full_run, passed}
+use Rattle.dz_step.specs.Run.{Ran, run}
+use Rattle.dz_step.specs.Step.{Stop}
 use Rattle.dz_step.proofs.FullRuns.{full_run_low}
 use Rattle.dz_step.proofs.FullRuns.{full_run_is_run}
 use Rattle.dz_pair.specs.Pair.{critical_pairs, delta_answer}
@@ -24,12 +27,15 @@ use Rattle.dz_tree.specs.declared.Rule.{Rule}
 use Rattle.dz_tree.specs.declared.lines.Line.{Line as ProgramLine}
 use Rattle.dz_tree.specs.declared.lines.Line.TheVariants as lines
 use Rattle.dz_tree.specs.Chain.{Evidence}
-use Rattle.dz_tree.specs.Fault.{Fault}
+use Rattle.dz_tree.specs.Fault.{Fault, refusal, run_fault}
 use Rattle.dz_tree.specs.Lines.{Entry, act, chain, pair, spent, spent_pairs}
 use Rattle.dz_tree.specs.Moves.{Action, Done, add, perform}
+use Rattle.dz_tree.specs.Parts.{placed_pair_run}
 use Rattle.dz_tree.specs.TreeLines.{line_of}
 use Rattle.dz_tree.specs.Walk.{Below, entered, told_at_line}
+use Rattle.dz_tree.specs.declared.pair_runs.ActionEnd.{ActionEnd}
 use Rattle.dz_tree.proofs.CriticalPairs.{NamesPair, critical_pairs_name}
+use Rattle.dz_tree.proofs.Outcomes.{pair_ran}
 use Rattle.dz_engine.specs.declared.naming.Named.{Named}
 use Rattle.dz_engine.specs.declared.pairing.PairCourse.{PairCourse}
 use Rattle.dz_engine.specs.declared.pairing.PairCourse.TheVariants as pairings
@@ -45,6 +51,21 @@ not_less a b h = by_test (nat_lt a b) refl
     by_test : (x : Bool) → nat_lt a b ≡ x → x ≡ false
     by_test true e = absurd (omega (arith, h, ltb-true a b e))
     by_test false e = refl
+
+-- ---- a pair of places
+module _ (g : Setting) (s : State) (i j : ℕ) (n : IsPairAt g.symbols s i j) where
+  -- its Delta-polynomial
+  pub delta_of_pair : delta_at g s (i, j) ≡ delta_answer g n.first n.second
+  delta_of_pair =
+      ap (λ o. elim o as (λ _. Result (Polynomial Symbol) Refusal) [ None ↦ Ok [] | Some a ↦ elim (at_place j s.equations) as (λ _. Result (Polynomial Symbol) Refusal) [ None ↦ Ok [] | Some b ↦ delta_answer g a b ] ]) n.first_is
+      ∙ ap (λ o. elim o as (λ _. Result (Polynomial Symbol) Refusal) [ None ↦ Ok [] | Some b ↦ delta_answer g n.first b ]) n.second_is
+
+  -- the run from it
+  pub run_of_pair : (steps : List Step) (d : Polynomial Symbol) (x : Ran) → delta_at g s (i, j) ≡ Ok d → run g s Free d steps ≡ Ok x → placed_pair_run g s i j steps ≡ Ok (record { terms = length d; ran = x })
+  run_of_pair steps d x e f =
+      pair_ran g s i j steps n.rises n.first n.first_is n.second n.second_is n.is_one
+      ∙ ap (λ q. numbered 0 (told_as refusal q) >>= (λ d. told_as run_fault (run g s Free d steps) >>= (λ r. Ok (record { terms = length d; ran = r })))) (sym delta_of_pair ∙ e)
+      ∙ ap (λ (q : Result Ran (ℕ × Stop)). told_as run_fault q >>= (λ r. Ok (record { terms = length d; ran = r }))) f
 
 -- ---- the run of a pair from its Delta-polynomial on
 module _ (g : Setting) (budget w : ℕ) (s : State) (i j : ℕ) (d : Polynomial Symbol) (low : w ≤ budget) (delta_is : delta_at g s (i, j) ≡ Ok d) where
@@ -80,39 +101,48 @@ module _ (g : Setting) (budget w : ℕ) (s : State) (i j : ℕ) (d : Polynomial 
               ∙ ap (λ b. cond b (next (w + 1 + length d + count) (es ++ evidence (i, j) steps ∷ [])) (affordable g s (add i j steps))) z
               ∙ ap (λ n. next n (es ++ evidence (i, j) steps ∷ [])) (omega (arith, k));
           weighs = (k ∙ sym (ap (delta_weight g s steps) delta_is ∙ ap (run_weight (length d)) (full_run_is_run g s Free (budget - (w + 1 + length d)) d steps end count f).0), omega (arith, k, n, room));
+          known = tt;
         }
 
-    -- it ends elsewhere
-    pub grown_course : (steps : List Step) (end : Polynomial Symbol) (count : ℕ) → full_run g s Free (left - 1 - length d) d ≡ finished steps end count → is_zero end ≡ false → IsPairCourse g budget w s (i, j) (pairings.Grown steps)
-    grown_course steps end count e z = record {
-      names = λ es next.
-          after_it room (finished steps end count) (ap (λ n. full_run g s Free n d) (sym rest_is) ∙ e) es next
-          ∙ ap (λ b. cond b (next (w + 1 + length d + count) (es ++ evidence (i, j) steps ∷ [])) (affordable g s (add i j steps))) z;
-      weighs = tt;
-    }
+    -- it ends elsewhere, and its end is known
+    pub grown_course : IsPairAt g.symbols s i j → (steps : List Step) (x : ActionEnd) → x.terms ≡ length d → (x.run).count < 2 ^ 32 → full_run g s Free (left - 1 - length d) d ≡ finished steps ((x.run).end).terms.items (x.run).count → is_zero ((x.run).end).terms.items ≡ false
+        → IsPairCourse g budget w s (i, j) (pairings.Grown steps x)
+    grown_course n steps x k few e z =
+        let end = ((x.run).end).terms.items in
+        let count = (x.run).count in
+        let f : going ≡ finished steps end count = ap (λ n. full_run g s Free n d) (sym rest_is) ∙ e in
+        let ran = full_run_is_run g s Free (budget - (w + 1 + length d)) d steps end count f in
+        record {
+          names = λ es next.
+              after_it room (finished steps end count) f es next
+              ∙ ap (λ b. cond b (next (w + 1 + length d + count) (es ++ evidence (i, j) steps ∷ [])) (affordable g s (add i j steps))) z;
+          weighs = tt;
+          known = (
+            record {
+              count = count;
+              is = run_of_pair g s i j n steps d (record { end = end; count = count }) delta_is ran.0 ∙ ap (λ (m : ℕ). Ok (record { terms = m; ran = record { end = end; count = count } })) (sym k);
+              counted = omega (arith, few);
+            },
+            ap is_some ran.1,
+          );
+        }
 
     -- it stops
     pub stop_course : (c : Course) → full_run g s Free (left - 1 - length d) d ≡ c → (x : PairCourse) → IsPairStop x c → IsPairCourse g budget w s (i, j) x
     stop_course c e (pairings.Zero steps cost) k = absurd k
-    stop_course c e (pairings.Spent steps) k = record { names = λ es next. after_it room (passed steps) (ap (λ n. full_run g s Free n d) (sym rest_is) ∙ e ∙ k) es next; weighs = tt }
-    stop_course c e (pairings.Grown steps) k = absurd k
-    stop_course c e (pairings.Wide steps) k = record { names = λ es next. after_it room _ (ap (λ n. full_run g s Free n d) (sym rest_is) ∙ e ∙ k) es next; weighs = tt }
-    stop_course c e (pairings.Large limit steps) k = record { names = λ es next. after_it room _ (ap (λ n. full_run g s Free n d) (sym rest_is) ∙ e ∙ k) es next; weighs = tt }
+    stop_course c e (pairings.Spent steps) k = record { names = λ es next. after_it room (passed steps) (ap (λ n. full_run g s Free n d) (sym rest_is) ∙ e ∙ k) es next; weighs = tt; known = tt }
+    stop_course c e (pairings.Grown steps x) k = absurd k
+    stop_course c e (pairings.Wide steps) k = record { names = λ es next. after_it room _ (ap (λ n. full_run g s Free n d) (sym rest_is) ∙ e ∙ k) es next; weighs = tt; known = tt }
+    stop_course c e (pairings.Large limit steps) k = record { names = λ es next. after_it room _ (ap (λ n. full_run g s Free n d) (sym rest_is) ∙ e ∙ k) es next; weighs = tt; known = tt }
 
--- ---- a pair of places
+-- ---- a Delta-polynomial that is refused
 module _ (g : Setting) (s : State) (i j : ℕ) (n : IsPairAt g.symbols s i j) where
-  -- its Delta-polynomial
-  pub delta_of_pair : delta_at g s (i, j) ≡ delta_answer g n.first n.second
-  delta_of_pair =
-      ap (λ o. elim o as (λ _. Result (Polynomial Symbol) Refusal) [ None ↦ Ok [] | Some a ↦ elim (at_place j s.equations) as (λ _. Result (Polynomial Symbol) Refusal) [ None ↦ Ok [] | Some b ↦ delta_answer g a b ] ]) n.first_is
-      ∙ ap (λ o. elim o as (λ _. Result (Polynomial Symbol) Refusal) [ None ↦ Ok [] | Some b ↦ delta_answer g n.first b ]) n.second_is
-
-  -- it is refused
+  -- the entry is decided
   by_refusal : (budget w : ℕ) (r : Refusal) → delta_answer g n.first n.second ≡ Err r → (es : List Evidence) (next : ℕ → List Evidence → Entry) → after_delta g budget s w es (i, j) (delta_at g s (i, j)) next ≡ after_delta g budget s w es (i, j) (Err r) next
-  by_refusal budget w r e es next = ap (λ q. after_delta g budget s w es (i, j) q next) (delta_of_pair ∙ e)
+  by_refusal budget w r e es next = ap (λ q. after_delta g budget s w es (i, j) q next) (delta_of_pair g s i j n ∙ e)
 
   pub wide_delta : (budget w : ℕ) (steps : List Step) → steps ≡ [] → IsStop stops.Wide (delta_answer g n.first n.second) → IsPairCourse g budget w s (i, j) (pairings.Wide steps)
-  wide_delta budget w steps none h = subst (λ (steps : List Step). IsPairCourse g budget w s (i, j) (pairings.Wide steps)) (sym none) (record { names = λ es next. by_refusal budget w wide (is_wide (delta_answer g n.first n.second) h) es next; weighs = tt })
+  wide_delta budget w steps none h = subst (λ (steps : List Step). IsPairCourse g budget w s (i, j) (pairings.Wide steps)) (sym none) (record { names = λ es next. by_refusal budget w wide (is_wide (delta_answer g n.first n.second) h) es next; weighs = tt; known = tt })
     where
       is_wide : (q : Result (Polynomial Symbol) Refusal) → IsStop stops.Wide q → q ≡ Err wide
       is_wide (Ok d) (inl e) = cc
@@ -122,7 +152,7 @@ module _ (g : Setting) (s : State) (i j : ℕ) (n : IsPairAt g.symbols s i j) wh
       is_wide (Err (large l)) (inr e) = cc
 
   pub large_delta : (budget w : ℕ) (limit : Limit) (steps : List Step) → steps ≡ [] → IsStop (stops.Large limit) (delta_answer g n.first n.second) → IsPairCourse g budget w s (i, j) (pairings.Large limit steps)
-  large_delta budget w limit steps none h = subst (λ (steps : List Step). IsPairCourse g budget w s (i, j) (pairings.Large limit steps)) (sym none) (record { names = λ es next. by_refusal budget w (large limit) (is_large (delta_answer g n.first n.second) h) es next; weighs = tt })
+  large_delta budget w limit steps none h = subst (λ (steps : List Step). IsPairCourse g budget w s (i, j) (pairings.Large limit steps)) (sym none) (record { names = λ es next. by_refusal budget w (large limit) (is_large (delta_answer g n.first n.second) h) es next; weighs = tt; known = tt })
     where
       is_large : (q : Result (Polynomial Symbol) Refusal) → IsStop (stops.Large limit) q → q ≡ Err (large limit)
       is_large (Ok d) (inl e) = cc
@@ -168,11 +198,11 @@ module _ (g : Setting) (budget weight w : ℕ) (s : State) (ls : List ProgramLin
       (f (h.evidence ++ evidence (i, j) steps ∷ []) (lines_append ls (lines.Pair i j steps) h.evidence (evidence (i, j) steps) h.are refl))
 
   -- an end that is not zero is added, if the entry holds
-  pub grown_onward : (steps : List Step) → IsPairCourse g budget w s (i, j) (pairings.Grown steps) → EntryHolds g budget weight s (pairs_entry g budget weight s)
+  pub grown_onward : (steps : List Step) (x : ActionEnd) → IsPairCourse g budget w s (i, j) (pairings.Grown steps x) → EntryHolds g budget weight s (pairs_entry g budget weight s)
       → pairs_entry g budget weight s ≡ plain g budget weight s (add i j steps)
   unfolding entered
-  grown_onward steps k holds =
-      let e = by_pair (pairings.Grown steps) k in
+  grown_onward steps x k holds =
+      let e = by_pair (pairings.Grown steps x) k in
       e ∙ affordable_plain (add i j steps) (subst (EntryHolds g budget weight s) e holds)
     where
       alone : Action → Result Done (ℕ × Fault) → Entry
@@ -207,7 +237,7 @@ pair_at g s k found x e l f = subst (λ (x : ℕ × ℕ). IsPairAt g s x.0 x.1) 
   where
     named : (ps : List (ℕ × ℕ)) (k : ℕ) → k < length ps → AllOf (NamesPair g s.equations) ps → IsPairAt g s (slice_index_or ps k x).0 (slice_index_or ps k x).1
     named [] k l h = absurd (omega (arith, l))
-    named (p ∷ ps) zero l h = let n = h.0 in record { first = n.first; second = n.second; first_is = n.first_is; second_is = n.second_is; is_one = n.is_one }
+    named (p ∷ ps) zero l h = let n = h.0 in record { first = n.first; second = n.second; rises = n.rises; first_is = n.first_is; second_is = n.second_is; is_one = n.is_one }
     named (p ∷ ps) (suc k) l h = named ps k (omega (arith, l)) h.1
 
 module _ (g : Setting) (budget weight : ℕ) (s : State) (ls : List ProgramLine) (w k : ℕ) (found : List (ℕ × ℕ)) where

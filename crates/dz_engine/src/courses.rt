@@ -30,7 +30,7 @@ use dz_step::{
     Attempt, Divisor, FullRun, Role, RunEnd, State, StepList, member_at, run_fully, run_with,
 };
 use dz_terms::Entry;
-use dz_tree::{Line, Next};
+use dz_tree::{ActionEnd, Line, Next};
 use std::alloc::{AllocError, Global};
 
 /// A full run as it is named: its steps up to its end, with the end and its count, or up to its
@@ -172,7 +172,10 @@ fn course_named(
         → HasEntry r x) }
 {
     match coursed {
-        Coursed::Ended(run, end) => Ok(Named::Known(run_name(members, place, run), end)),
+        Coursed::Ended(run, end) => {
+            let end = ActionEnd { terms: 0, run: end };
+            Ok(Named::Known(run_name(members, place, run), end))
+        }
         Coursed::Steps(run) => Ok(Named::Perform(run_name(members, place, run))),
         Coursed::Wide(run) => ended(alloc, Line::Wide(run_name(members, place, run))),
         Coursed::Large(limit, run) => {

@@ -15,32 +15,33 @@ ghost use Rattle.dz_tree.specs.Lines.{pair};
 ghost use Rattle.dz_tree.specs.TreeLines.{line_of};
 ghost use Rattle.dz_engine.specs.Halting.{IsHalt};
 ghost use Rattle.dz_engine.specs.Naming.{HasEntry, IsNamed, IsOnward, IsPairAt, IsPairCourse, IsPairStop};
-ghost use Rattle.dz_engine.specs.Naming.{IsSoFar, line_weight, states_below};
+ghost use Rattle.dz_engine.specs.Naming.{IsSoFar, PairHasEntry, line_weight, states_below};
 ghost use Rattle.dz_engine.specs.Order.{delta_at, with_evidence};
 
 use crate::halting::{Halt, halted};
 use crate::naming::{Named, ended};
 use dz_pair::{delta_entry, pairs};
 use dz_poly::{Book, Limit, PolyStop};
-use dz_step::{Divisor, FullRun, Role, State, StepList, member_at, run_with};
+use dz_step::{Divisor, FullRun, Role, RunEnd, State, StepList, member_at, run_with};
 use dz_terms::{Entry, into_norm};
-use dz_tree::{Line, Next};
+use dz_tree::{ActionEnd, Line, Next};
 use std::alloc::{AllocError, Global};
 
 /// The run of a critical pair: to zero, with its weight; past the budget; to an end that is not
-/// zero; or up to an operation that is refused.
+/// zero, which is known; or up to an operation that is refused.
 #[derive(Drop)]
 pub(crate) enum PairCourse {
     Zero(StepList, u32),
     Spent(StepList),
-    Grown(StepList),
+    Grown(StepList, ActionEnd),
     Wide(StepList),
     Large(Limit, StepList),
 }
 
 /// A run of a pair that stops before its end.
 fn pair_halt(halt: Halt) -> PairCourse
-    ensures { (course : Course) → IsHalt halt course → IsPairStop result course }
+    ensures stop { (course : Course) → IsHalt halt course → IsPairStop result course }
+    ensures entry { (r : RankingValue) → PairHasEntry r result }
 {
     match halt {
         Halt::Passed(run) => PairCourse::Spent(run),
@@ -64,8 +65,10 @@ fn delta_course(
     ensures course { IfOk result (λ x. (budget w i j : ℕ) → w ≤ budget → left ≡ budget - w
         → delta_at (setting_of book.now.ranking) (state_in book.now state.now) (i, j)
         ≡ Ok delta.terms.items
+        → IsPairAt (symbols_under book.now.ranking) (state_in book.now state.now) i j
         → IsPairCourse (setting_of book.now.ranking) budget w (state_in book.now state.now)
         (i, j) x) }
+    ensures entry { IfOk result (λ x. PairHasEntry book.now.ranking x) }
 {
     let terms = delta.term_count();
     if terms >= left as usize {
@@ -83,7 +86,10 @@ fn delta_course(
     ) {
         Ok(FullRun { run, end, count }) => {
             if !end.is_zero() {
-                return Ok(PairCourse::Grown(run));
+                let count = count as usize;
+                let ran = RunEnd { end, count };
+                let known = ActionEnd { terms, run: ran };
+                return Ok(PairCourse::Grown(run, known));
             }
             Ok(PairCourse::Zero(run, 1 + terms as u32 + count))
         }
@@ -111,6 +117,7 @@ fn pair_course(
     ensures course { IfOk result (λ x. (budget w : ℕ) → w ≤ budget → left ≡ budget - w
         → IsPairCourse (setting_of book.now.ranking) budget w (state_in book.now state.now)
         (first, second) x) }
+    ensures entry { IfOk result (λ x. PairHasEntry book.now.ranking x) }
 {
     let Some(p) = member_at(state.equations(), first) else {
         unreachable!()
@@ -177,7 +184,7 @@ fn one_pair(
     requires within { so_far.old.spent ≤ budget }
     ensures table { AreDivisors book.now.ranking (state_in book.now state.now) Free table.new.items }
     ensures within { so_far.new.spent ≤ budget }
-    ensures entry { IfOk result (λ o. IfSome o (λ x. (r : RankingValue) → HasEntry r x)) }
+    ensures entry { IfOk result (λ o. IfSome o (λ x. HasEntry book.now.ranking x)) }
     ensures onward { IfOk result (λ o. (weight : ℕ) (ps : List (ℕ × ℕ))
         → IsSoFar (setting_of book.now.ranking) budget weight (state_in book.now state.now)
         so_far.old.lines.items so_far.old.spent ((first, second) ∷ ps)
@@ -197,7 +204,9 @@ fn one_pair(
             let spent = headed(alloc, Line::SpentPairs, &mut so_far.lines, 0)?;
             Ok(Some(spent))
         }
-        PairCourse::Grown(run) => Ok(Some(Named::Perform(Next::Pair { first, second, run }))),
+        PairCourse::Grown(run, end) => {
+            Ok(Some(Named::Known(Next::Pair { first, second, run }, end)))
+        }
         PairCourse::Wide(run) => {
             let wide = ended(alloc, Line::Wide(Next::Pair { first, second, run }))?;
             Ok(Some(wide))
@@ -220,7 +229,7 @@ pub(crate) fn pairs_named(
     requires stands { StandsIn book.now state.now }
     requires table { AreDivisors book.now.ranking (state_in book.now state.now) Free table.old.items }
     requires within { weight ≤ budget }
-    ensures entry { IfOk result (λ x. (r : RankingValue) → HasEntry r x) }
+    ensures entry { IfOk result (λ x. HasEntry book.now.ranking x) }
     ensures named { IfOk result (λ x. IsOnward (setting_of book.now.ranking) budget weight
         (state_in book.now state.now) [] weight [] (Some x)) }
 {

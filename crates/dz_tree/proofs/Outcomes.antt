@@ -17,12 +17,13 @@ use Rattle.dz_diff.specs.Operations.{Setting}
 use Rattle.dz_diff.specs.Outcome.{◌>>=◌, given, needs, numbered, told_as}
 use Rattle.dz_diff.specs.State.{State, at_place, put_equation}
 use Rattle.dz_diff.specs.States.{LiveAll, MeanAll, polynomials, state_in}
-use Rattle.dz_diff.specs.Tests.{Polynomials, is_member, same}
+use Rattle.dz_diff.specs.Tests.{Polynomials, is_member, is_zero, same}
 use Rattle.dz_diff.proofs.KeptStates.{kept_polynomials, live_on}
 use Rattle.dz_step.specs.declared.Role.TheVariants.{Free}
 use Rattle.dz_step.specs.declared.Step.{Step}
 use Rattle.dz_step.specs.declared.Which.{Which}
 use Rattle.dz_step.specs.Division.{is_divided, quotient_by}
+use Rattle.dz_step.specs.FullRun.{admits}
 use Rattle.dz_step.specs.Run.{Ran, run}
 use Rattle.dz_step.specs.Step.{multiplier_answer}
 use Rattle.dz_pair.specs.Pair.{delta_answer, is_pair}
@@ -33,7 +34,7 @@ use Rattle.dz_tree.specs.declared.fault.MoveFault.TheVariants.{NotPermitted}
 use Rattle.dz_tree.specs.Actions.{IsActionStop, operation_stop, stop_in}
 use Rattle.dz_tree.specs.Fault.{Fault, refusal, rule, run_fault}
 use Rattle.dz_tree.specs.Moves.{Done, divided_at, factored, forked, grown, settled, split_at, with_equations}
-use Rattle.dz_tree.specs.Parts.{DeltaRun, delta_run, is_new, may_be_added, may_be_factor}
+use Rattle.dz_tree.specs.Parts.{DeltaRun, delta_run, is_new, may_be_added, may_be_factor, placed_pair_run}
 use Rattle.dz_step.proofs.BookPlaces.{lives_at, none_at, some_at}
 use Rattle.dz_algebra.specs.Monomial.{Monomial, exponent}
 use Rattle.dz_algebra.specs.Parts.{degree}
@@ -118,6 +119,48 @@ mean_on old new keeps ps qs h = record { live = live_on old new keeps ps h.live;
 pub state_is : (book : BookValue) (es hs : List ℕ) (a b : Polynomials) (m n : ℕ) → polynomials book es ≡ a → polynomials book hs ≡ b → m ≡ n → state_in book (record { equations = es; inequations = hs; splits = m }) ≡ record { equations = a; inequations = b; splits = n }
 state_is book es hs a b m n e f h = ap₂ (λ (a b : Polynomials). record { equations = a; inequations = b; splits = m }) e f ∙ ap (λ n. record { equations = a; inequations = b; splits = n }) h
 
+-- ---- the run of a pair
+module _ (g : Setting) (s : State) (i j : ℕ) (steps : List Step) where
+  -- once there are two equations
+  abbrev ran_both : Polynomial Symbol → Polynomial Symbol → Result DeltaRun (ℕ × Fault)
+  ran_both p q = needs (is_pair g.symbols p q) (0, rule rules.Pair) >>= (λ _. delta_run g s p q steps)
+
+  -- once there is the first of them
+  abbrev ran_first : Polynomial Symbol → Result DeltaRun (ℕ × Fault)
+  ran_first p = given (at_place j s.equations) (0, rule rules.Place) >>= ran_both p
+
+  -- once the places grow
+  abbrev ran_places : Result DeltaRun (ℕ × Fault)
+  ran_places = given (at_place i s.equations) (0, rule rules.Place) >>= ran_first
+
+  pub pair_not_less : nat_lt i j ≡ false → placed_pair_run g s i j steps ≡ Err (0, rule rules.Place)
+  pair_not_less e = ap (λ b. needs b (0, rule rules.Place) >>= (λ _. ran_places)) e
+
+  module _ (less : nat_lt i j ≡ true) where
+    less_is : placed_pair_run g s i j steps ≡ ran_places
+    less_is = ap (λ b. needs b (0, rule rules.Place) >>= (λ _. ran_places)) less
+
+    pub pair_no_first : at_place i s.equations ≡ None → placed_pair_run g s i j steps ≡ Err (0, rule rules.Place)
+    pair_no_first e = less_is ∙ ap (λ o. given o (0, rule rules.Place) >>= ran_first) e
+
+    module _ (p : Polynomial Symbol) (first : at_place i s.equations ≡ Some p) where
+      first_is : placed_pair_run g s i j steps ≡ ran_first p
+      first_is = less_is ∙ ap (λ o. given o (0, rule rules.Place) >>= ran_first) first
+
+      pub pair_no_second : at_place j s.equations ≡ None → placed_pair_run g s i j steps ≡ Err (0, rule rules.Place)
+      pair_no_second e = first_is ∙ ap (λ o. given o (0, rule rules.Place) >>= ran_both p) e
+
+      module _ (q : Polynomial Symbol) (second : at_place j s.equations ≡ Some q) where
+        second_is : placed_pair_run g s i j steps ≡ ran_both p q
+        second_is = first_is ∙ ap (λ o. given o (0, rule rules.Place) >>= ran_both p) second
+
+        pub pair_no_pair : is_pair g.symbols p q ≡ false → placed_pair_run g s i j steps ≡ Err (0, rule rules.Pair)
+        pair_no_pair e = second_is ∙ ap (λ b. needs b (0, rule rules.Pair) >>= (λ _. delta_run g s p q steps)) e
+
+        -- it is that of the two equations
+        pub pair_ran : is_pair g.symbols p q ≡ true → placed_pair_run g s i j steps ≡ delta_run g s p q steps
+        pair_ran e = second_is ∙ ap (λ b. needs b (0, rule rules.Pair) >>= (λ _. delta_run g s p q steps)) e
+
 -- ---- adding the end of a run
 module _ (g : Setting) (s : State) (i j : ℕ) (steps : List Step) where
   -- once there is a run
@@ -137,59 +180,56 @@ module _ (g : Setting) (s : State) (i j : ℕ) (steps : List Step) where
   abbrev with_places : Result Done (ℕ × Fault)
   with_places = given (at_place i s.equations) (0, rule rules.Place) >>= with_first
 
-  grown_is : grown g s i j steps ≡ (needs (nat_lt i j) (0, rule rules.Place) >>= (λ _. with_places))
+  -- what is made of a run from the Delta-polynomial
+  abbrev after : DeltaRun → Result Done (ℕ × Fault)
+  after x = needs (may_be_added g s (x.ran).end) (length steps, rule rules.End) >>= (λ _. settled (length steps) (with_equations s (s.equations ++ (x.ran).end ∷ []) ∷ []) (1 + x.terms + (x.ran).count))
+
+  -- an add is a run, and what is made of its end
+  grown_is : grown g s i j steps ≡ (placed_pair_run g s i j steps >>= after)
   unfolding grown
-  grown_is = refl
+  grown_is = by_less (nat_lt i j)
+    where
+      by_run : (d : Polynomial Symbol) (y : Result Ran (ℕ × Fault)) → (y >>= with_run d) ≡ ((y >>= (λ r. Ok (record { terms = length d; ran = r }))) >>= after)
+      by_run d (Ok r) = refl
+      by_run d (Err e) = refl
 
-  pub grown_not_less : nat_lt i j ≡ false → grown g s i j steps ≡ Err (0, rule rules.Place)
-  grown_not_less e = grown_is ∙ ap (λ b. needs b (0, rule rules.Place) >>= (λ _. with_places)) e
+      by_delta : (x : Result (Polynomial Symbol) (ℕ × Fault)) → (x >>= (λ d. told_as run_fault (run g s Free d steps) >>= with_run d)) ≡ ((x >>= (λ d. told_as run_fault (run g s Free d steps) >>= (λ r. Ok (record { terms = length d; ran = r })))) >>= after)
+      by_delta (Ok d) = by_run d (told_as run_fault (run g s Free d steps))
+      by_delta (Err e) = refl
 
-  module _ (less : nat_lt i j ≡ true) where
-    less_is : grown g s i j steps ≡ with_places
-    less_is = grown_is ∙ ap (λ b. needs b (0, rule rules.Place) >>= (λ _. with_places)) less
+      by_pair : (p q : Polynomial Symbol) (b : Bool) → (needs b (0, rule rules.Pair) >>= (λ _. with_pair p q)) ≡ ((needs b (0, rule rules.Pair) >>= (λ _. delta_run g s p q steps)) >>= after)
+      by_pair p q true = by_delta (numbered 0 (told_as refusal (delta_answer g p q)))
+      by_pair p q false = refl
 
-    pub grown_no_first : at_place i s.equations ≡ None → grown g s i j steps ≡ Err (0, rule rules.Place)
-    grown_no_first e = less_is ∙ ap (λ o. given o (0, rule rules.Place) >>= with_first) e
+      by_second : (p : Polynomial Symbol) (o : Option (Polynomial Symbol)) → (given o (0, rule rules.Place) >>= with_both p) ≡ ((given o (0, rule rules.Place) >>= ran_both g s i j steps p) >>= after)
+      by_second p (Some q) = by_pair p q (is_pair g.symbols p q)
+      by_second p None = refl
 
-    module _ (p : Polynomial Symbol) (first : at_place i s.equations ≡ Some p) where
-      first_is : grown g s i j steps ≡ with_first p
-      first_is = less_is ∙ ap (λ o. given o (0, rule rules.Place) >>= with_first) first
+      by_first : (o : Option (Polynomial Symbol)) → (given o (0, rule rules.Place) >>= with_first) ≡ ((given o (0, rule rules.Place) >>= ran_first g s i j steps) >>= after)
+      by_first (Some p) = by_second p (at_place j s.equations)
+      by_first None = refl
 
-      pub grown_no_second : at_place j s.equations ≡ None → grown g s i j steps ≡ Err (0, rule rules.Place)
-      grown_no_second e = first_is ∙ ap (λ o. given o (0, rule rules.Place) >>= with_both p) e
+      by_less : (b : Bool) → (needs b (0, rule rules.Place) >>= (λ _. with_places)) ≡ ((needs b (0, rule rules.Place) >>= (λ _. ran_places g s i j steps)) >>= after)
+      by_less true = by_first (at_place i s.equations)
+      by_less false = refl
 
-      module _ (q : Polynomial Symbol) (second : at_place j s.equations ≡ Some q) where
-        second_is : grown g s i j steps ≡ with_both p q
-        second_is = first_is ∙ ap (λ o. given o (0, rule rules.Place) >>= with_both p) second
+  pub grown_stopped : (stop : ActionStop) → IsActionStop stop (placed_pair_run g s i j steps) → IsActionStop stop (grown g s i j steps)
+  grown_stopped stop h = subst (IsActionStop stop) (sym grown_is) (bind_stopped stop (placed_pair_run g s i j steps) after h)
 
-        pub grown_no_pair : is_pair g.symbols p q ≡ false → grown g s i j steps ≡ Err (0, rule rules.Pair)
-        grown_no_pair e = second_is ∙ ap (λ b. needs b (0, rule rules.Pair) >>= (λ _. with_pair p q)) e
+  module _ (x : DeltaRun) (is : placed_pair_run g s i j steps ≡ Ok x) where
+    pub grown_not_added : may_be_added g s (x.ran).end ≡ false → grown g s i j steps ≡ Err (length steps, rule rules.End)
+    grown_not_added e = grown_is ∙ ap (λ y. y >>= after) is ∙ ap (λ b. needs b (length steps, rule rules.End) >>= (λ _. settled (length steps) (with_equations s (s.equations ++ (x.ran).end ∷ []) ∷ []) (1 + x.terms + (x.ran).count))) e
 
-        module _ (pair : is_pair g.symbols p q ≡ true) where
-          -- what is made of a run from the Delta-polynomial
-          abbrev after : DeltaRun → Result Done (ℕ × Fault)
-          after x = needs (may_be_added g s (x.ran).end) (length steps, rule rules.End) >>= (λ _. settled (length steps) (with_equations s (s.equations ++ (x.ran).end ∷ []) ∷ []) (1 + x.terms + (x.ran).count))
+    pub grown_added : may_be_added g s (x.ran).end ≡ true → grown g s i j steps ≡ settled (length steps) (with_equations s (s.equations ++ (x.ran).end ∷ []) ∷ []) (1 + x.terms + (x.ran).count)
+    grown_added e = grown_is ∙ ap (λ y. y >>= after) is ∙ ap (λ b. needs b (length steps, rule rules.End) >>= (λ _. settled (length steps) (with_equations s (s.equations ++ (x.ran).end ∷ []) ∷ []) (1 + x.terms + (x.ran).count))) e
 
-          pair_is : grown g s i j steps ≡ (delta_run g s p q steps >>= after)
-          pair_is = second_is ∙ ap (λ b. needs b (0, rule rules.Pair) >>= (λ _. with_pair p q)) pair ∙ by_delta (numbered 0 (told_as refusal (delta_answer g p q)))
-            where
-              by_run : (d : Polynomial Symbol) (y : Result Ran (ℕ × Fault)) → (y >>= with_run d) ≡ ((y >>= (λ r. Ok (record { terms = length d; ran = r }))) >>= after)
-              by_run d (Ok r) = refl
-              by_run d (Err e) = refl
-
-              by_delta : (x : Result (Polynomial Symbol) (ℕ × Fault)) → (x >>= (λ d. told_as run_fault (run g s Free d steps) >>= with_run d)) ≡ ((x >>= (λ d. told_as run_fault (run g s Free d steps) >>= (λ r. Ok (record { terms = length d; ran = r })))) >>= after)
-              by_delta (Ok d) = by_run d (told_as run_fault (run g s Free d steps))
-              by_delta (Err e) = refl
-
-          pub grown_stopped : (stop : ActionStop) → IsActionStop stop (delta_run g s p q steps) → IsActionStop stop (grown g s i j steps)
-          grown_stopped stop h = subst (IsActionStop stop) (sym pair_is) (bind_stopped stop (delta_run g s p q steps) after h)
-
-          module _ (x : DeltaRun) (is : delta_run g s p q steps ≡ Ok x) where
-            pub grown_not_added : may_be_added g s (x.ran).end ≡ false → grown g s i j steps ≡ Err (length steps, rule rules.End)
-            grown_not_added e = pair_is ∙ ap (λ y. y >>= after) is ∙ ap (λ b. needs b (length steps, rule rules.End) >>= (λ _. settled (length steps) (with_equations s (s.equations ++ (x.ran).end ∷ []) ∷ []) (1 + x.terms + (x.ran).count))) e
-
-            pub grown_added : may_be_added g s (x.ran).end ≡ true → grown g s i j steps ≡ settled (length steps) (with_equations s (s.equations ++ (x.ran).end ∷ []) ∷ []) (1 + x.terms + (x.ran).count)
-            grown_added e = pair_is ∙ ap (λ y. y >>= after) is ∙ ap (λ b. needs b (length steps, rule rules.End) >>= (λ _. settled (length steps) (with_equations s (s.equations ++ (x.ran).end ∷ []) ∷ []) (1 + x.terms + (x.ran).count))) e
+  -- an end that admits a step is not added
+  pub step_not_added : (f : Polynomial Symbol) → admits g s Free f ≡ true → may_be_added g s f ≡ false
+  step_not_added f e = ap (λ b. not (is_zero f) && not (is_member g.symbols f s.equations) && not b) e ∙ never (not (is_zero f) && not (is_member g.symbols f s.equations))
+    where
+      never : (a : Bool) → (a && false) ≡ false
+      never true = refl
+      never false = refl
 
 -- ---- dividing
 module _ (g : Setting) (s : State) (i : ℕ) (v : Symbol) where

@@ -21,7 +21,7 @@ use crate::chain_conditions::chain_conditions;
 use crate::entry_fault::EntryFault;
 use crate::fault::{ActionStop, MoveFault};
 use crate::lines::Line;
-use crate::pair_runs::{PairRun, pair_run};
+use crate::pair_runs::{ActionEnd, pair_run};
 use dz_diff::State;
 use dz_poly::Book;
 use dz_step::{StepList, member_at};
@@ -75,7 +75,7 @@ fn run_weight(
         unreachable!()
     };
     match pair_run(book, state, p, q, run) {
-        Ok(PairRun { terms, run }) => {
+        Ok(ActionEnd { terms, run }) => {
             if !run.end.is_zero() {
                 return Err(EntryFault::Rule {
                     line,

@@ -46,6 +46,7 @@ pub use forming::{Expected, expected_after, left_after, may_stand};
 pub use line_operators::have_operators_of;
 pub use lines::{Line, Next, Verdict};
 pub use next_actions::{perform_next, perform_to};
+pub use pair_runs::ActionEnd;
 pub use performing::{advance, branches};
 pub use roots::root;
 pub use system::System;

@@ -1,29 +1,29 @@
 //! Moves: the drafts after them.
 
-ghost use Rattle.std.specs.Prelude.{◌≡◌, ◌≤◌, ◌+◌, ℕ, IfOk, IfErr, length};
+ghost use Rattle.std.specs.Prelude.{◌≡◌, ◌≤◌, ◌+◌, ℕ, false, IfOk, IfErr, length};
 ghost use Rattle.dz_poly.specs.Books.{IsKept, Lives, polynomial};
 ghost use Rattle.dz_terms.specs.Entries.{IsEntry};
 ghost use Rattle.dz_terms.specs.Ranked.{symbols_under};
 ghost use Rattle.dz_diff.specs.Operations.{setting_of};
 ghost use Rattle.dz_diff.specs.States.{LiveAll, StandsIn, polynomials, state_in};
 ghost use Rattle.dz_diff.specs.Tests.{same, same_all};
+ghost use Rattle.dz_step.specs.FullRun.{admits};
 ghost use Rattle.dz_step.specs.Replays.{IsRunEnd};
-ghost use Rattle.dz_step.specs.declared.Role.TheVariants.{Equation, Inequation};
+ghost use Rattle.dz_step.specs.declared.Role.TheVariants.{Equation, Free, Inequation};
 ghost use Rattle.dz_tree.specs.Actions.{IsActionStop, IsDrafted, IsWeight, draft_in, draft_value};
 ghost use Rattle.dz_tree.specs.Moves.{divided_at, grown, moved, reduced, weeded};
-ghost use Rattle.dz_tree.specs.Parts.{placed_run};
+ghost use Rattle.dz_tree.specs.Parts.{IsPairRun, placed_pair_run, placed_run};
 
 use crate::Rule;
 use crate::drafts::{Draft, Drafted, Drafts};
 use crate::fault::{ActionStop, broken};
 use crate::lists::{appended, has_symbol, names, put};
-use crate::pair_runs::{PairRun, may_be_added, pair_run};
+use crate::pair_runs::{ActionEnd, may_be_added, placed_pair_run};
 use crate::roots::Members;
 use dz_diff::{State, norm_entry};
-use dz_pair::is_pair;
 use dz_poly::{Book, Poly, same};
 use dz_rank::Symbol;
-use dz_step::{Role, RunEnd, StepList, divided_entry, member_at, run_entry};
+use dz_step::{Role, RunEnd, StepList, admits, divided_entry, member_at, run_entry};
 
 /// The run in a role on the member at a place of a list.
 fn placed_run(
@@ -238,21 +238,40 @@ pub(crate) fn grown(
         (setting_of book.old.ranking) (state_in book.old state.now) first second run.now)) }
     ensures kept { IsKept book.old book.new }
 {
-    if first >= second {
-        return Err(broken(0, Rule::Place));
+    let ran = placed_pair_run(book, state, first, second, run)?;
+    if admits(book, state, Role::Free, &ran.run.end)? {
+        return Err(broken(run.len(), Rule::End));
     }
-    let Some(p) = member_at(state.equations(), first) else {
-        return Err(broken(0, Rule::Place));
-    };
-    let Some(q) = member_at(state.equations(), second) else {
-        return Err(broken(0, Rule::Place));
-    };
-    if !is_pair(book, p, q) {
-        return Err(broken(0, Rule::Pair));
-    }
-    let PairRun { terms, run: ran } = pair_run(book, state, p, q, run)?;
+    grown_to(book, state, first, second, run, ran)
+}
+
+/// The end of a run from the Delta-polynomial of a critical pair is appended to the equations, where
+/// the end is known and admits no free step.
+pub(crate) fn grown_to(
+    book: &mut Book,
+    state: &State,
+    first: u16,
+    second: u16,
+    run: &StepList,
+    ran: ActionEnd,
+) -> Result<Drafted, ActionStop>
+    requires stands { StandsIn book.old state.now }
+    requires ran { IsPairRun ran (placed_pair_run (setting_of book.old.ranking)
+        (state_in book.old state.now) first second run.now) }
+    requires rests { admits (setting_of book.old.ranking) (state_in book.old state.now) Free
+        ran.run.end.terms.items ≡ false }
+    requires entry { IsEntry book.old.ranking ran.run.end.terms.items ran.run.end.degrees.items }
+    ensures ok { IfOk result (λ x. IsDrafted book.new x (grown (setting_of book.old.ranking)
+        (state_in book.old state.now) first second run.now)) }
+    ensures refused { IfErr result (λ stop. IsActionStop stop (grown
+        (setting_of book.old.ranking) (state_in book.old state.now) first second run.now)) }
+    ensures kept { IsKept book.old book.new }
+{
+    // The places are for the contract alone.
+    let _ = (first, second);
+    let ActionEnd { terms, run: ran } = ran;
     let RunEnd { end, count } = ran;
-    if !may_be_added(book, state, &end)? {
+    if !may_be_added(book, state, &end) {
         return Err(broken(run.len(), Rule::End));
     }
     let end = book.keep(end)?;

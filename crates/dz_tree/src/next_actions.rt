@@ -14,11 +14,12 @@ ghost use Rattle.dz_tree.specs.TreeLines.{action_of};
 use crate::drafts::{Drafted, Performed, settled};
 use crate::fault::{ActionStop, MoveFault};
 use crate::lines::Next;
-use crate::moves::{reduced_to, weeded_to};
+use crate::moves::{grown_to, reduced_to, weeded_to};
+use crate::pair_runs::ActionEnd;
 use crate::performing::performed_next;
 use dz_diff::State;
 use dz_poly::Book;
-use dz_step::{RunEnd, StepList};
+use dz_step::StepList;
 use std::alloc::Global;
 
 /// The states after the action that is named, with its weight, or the first rule that fails; the
@@ -51,17 +52,17 @@ pub fn perform_next(
     }
 }
 
-/// The drafts after a reduce or a weed whose run has a known end.
+/// The drafts after an action whose run has a known end.
 fn drafted_to(
     book: &mut Book,
     state: &State,
     next: &Next,
-    end: RunEnd,
+    end: ActionEnd,
 ) -> Result<Drafted, ActionStop>
     requires stands { StandsIn book.old state.now }
     requires end { IsKnownEnd (setting_of book.old.ranking) (state_in book.old state.now)
         (action_of next.now) end }
-    requires entry { IsEntry book.old.ranking end.end.terms.items end.end.degrees.items }
+    requires entry { IsEntry book.old.ranking end.run.end.terms.items end.run.end.degrees.items }
     ensures ok { IfOk result (λ x. IsDrafted book.new x (perform (setting_of book.old.ranking)
         (state_in book.old state.now) (action_of next.now))) }
     ensures refused { IfErr result (λ stop. IsActionStop stop (perform
@@ -69,11 +70,12 @@ fn drafted_to(
     ensures kept { IsKept book.old book.new }
 {
     match next {
-        Next::Reduce { place, run } => reduced_to(book, state, *place, run, end),
-        Next::Weed { place, run } => weeded_to(book, state, *place, run, end),
+        Next::Reduce { place, run } => reduced_to(book, state, *place, run, end.run),
+        Next::Weed { place, run } => weeded_to(book, state, *place, run, end.run),
+        Next::Pair { first, second, run } => grown_to(book, state, *first, *second, run, end),
         Next::Separant { place } => {
             let none = StepList::new(book.allocator());
-            reduced_to(book, state, *place, &none, end)
+            reduced_to(book, state, *place, &none, end.run)
         }
         _ => unreachable!(),
     }
@@ -84,13 +86,13 @@ fn performed_to(
     book: &mut Book,
     state: &State,
     next: &Next,
-    end: RunEnd,
+    end: ActionEnd,
 ) -> Result<Performed, ActionStop>
     requires stands { StandsIn book.old state.now }
     requires facts { IsStateOf (symbols_under book.old.ranking) (state_in book.old state.now) }
     requires end { IsKnownEnd (setting_of book.old.ranking) (state_in book.old state.now)
         (action_of next.now) end }
-    requires entry { IsEntry book.old.ranking end.end.terms.items end.end.degrees.items }
+    requires entry { IsEntry book.old.ranking end.run.end.terms.items end.run.end.degrees.items }
     ensures ok { IfOk result (λ x. IsPerformed book.new x (perform (setting_of book.old.ranking)
         (state_in book.old state.now) (action_of next.now))) }
     ensures refused { IfErr result (λ stop. IsActionStop stop (perform
@@ -104,20 +106,20 @@ fn performed_to(
     settled(book, drafted)
 }
 
-/// The states after a reduce or a weed whose run has a known end, which is not taken again.
+/// The states after a reduce, a weed or a pair whose run has a known end, which is not taken again.
 #[tactic(auto, using(crate::proofs::ReachedStates::stop_fault))]
 pub fn perform_to(
     alloc: Global,
     book: &mut Book,
     state: &State,
     next: &Next,
-    end: RunEnd,
+    end: ActionEnd,
 ) -> Result<Performed, MoveFault>
     requires stands { StandsIn book.old state.now }
     requires facts { IsStateOf (symbols_under book.old.ranking) (state_in book.old state.now) }
     requires end { IsKnownEnd (setting_of book.old.ranking) (state_in book.old state.now)
         (action_of next.now) end }
-    requires entry { IsEntry book.old.ranking end.end.terms.items end.end.degrees.items }
+    requires entry { IsEntry book.old.ranking end.run.end.terms.items end.run.end.degrees.items }
     ensures states { IfOk result (λ x. IsPerformed book.new x (perform
         (setting_of book.old.ranking) (state_in book.old state.now) (action_of next.now))) }
     ensures fault { IfErr result (λ fault. IsMoveFault fault (perform

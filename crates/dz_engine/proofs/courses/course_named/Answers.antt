@@ -8,7 +8,7 @@ use Rattle.dz_engine.proofs.courses.course_named.Goals as goal
 
 pub returns-in-Ended-clause-named : goal.returns-in-Ended-clause-named
 returns-in-Ended-clause-named c = λ g budget w left s p there k.
-    known_named g budget w left s c.args.members c.args.place p c.in-Ended.run' c.run_name.result c.in-Ended.end c.run_name.ensures.name c.run_name.ensures.action there (subst (λ x. IsCoursed x (full_run g s (role_in c.args.members c.args.place) left p)) c.in-Ended.is k)
+    known_named g budget w left s c.args.members c.args.place p c.in-Ended.run' c.run_name.result c.in-Ended.end 0 c.run_name.ensures.name c.run_name.ensures.action there (subst (λ x. IsCoursed x (full_run g s (role_in c.args.members c.args.place) left p)) c.in-Ended.is k)
 
 pub returns-in-Wide-clause-named : goal.returns-in-Wide-clause-named
 returns-in-Wide-clause-named c = if_ok _ _ c.ended.result (λ x f g budget w left s p there k.

@@ -19,4 +19,13 @@ returns-in-Grown-clause-onward c = λ weight ps h holds.
     let s = state_in c.args.book.now c.args.state.now in
     let w = c.args.so_far.now.spent in
     let k = subst (IsPairCourse g c.args.budget w s (c.args.first, c.args.second)) c.in-Grown.is (c.in_ok-run.ensures.course c.args.budget w c.requires.within refl) in
-    (grown_onward g c.args.budget weight w s c.args.so_far.now.lines.items c.args.first c.args.second ps h c.in-Grown.run' k holds, tt)
+    (grown_onward g c.args.budget weight w s c.args.so_far.now.lines.items c.args.first c.args.second ps h c.in-Grown.run' c.in-Grown.end k holds, tt, k.known)
+
+pub returns-in_ok-spent-in-Spent-clause-entry : goal.returns-in_ok-spent-in-Spent-clause-entry
+returns-in_ok-spent-in-Spent-clause-entry c = c.in_ok-spent-in-Spent.ensures.entry c.args.book.now.ranking
+
+pub returns-in_ok-wide-in-Wide-clause-entry : goal.returns-in_ok-wide-in-Wide-clause-entry
+returns-in_ok-wide-in-Wide-clause-entry c = c.in_ok-wide-in-Wide.ensures.entry c.args.book.now.ranking
+
+pub returns-in_ok-large-in-Large-clause-entry : goal.returns-in_ok-large-in-Large-clause-entry
+returns-in_ok-large-in-Large-clause-entry c = c.in_ok-large-in-Large.ensures.entry c.args.book.now.ranking

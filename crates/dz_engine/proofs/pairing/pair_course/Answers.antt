@@ -39,7 +39,7 @@ returns-in-Ok-clause-course c =
     let p = entry_at book c.args.state.now.equations c.equations.result.now c.args.first c.in-Some.p _ c.entry.result.now.terms.items c.equations.ensures.items (sym c.member_at.ensures ∙ c.in-Some.is) c.requires.pair.first_is c.entry.ensures.value in
     let q = entry_at book c.args.state.now.equations c.equations-2.result.now c.args.second c.in-Some-member_at.q _ c.entry-2.result.now.terms.items c.equations-2.ensures.items (sym c.member_at-2.ensures ∙ c.in-Some-member_at.is) c.requires.pair.second_is c.entry-2.ensures.value in
     let d = sym (ap (λ (r : RankingValue). delta_answer (setting_of r) c.entry.result.now.terms.items c.entry-2.result.now.terms.items) c.ranking.ensures ∙ ap₂ (delta_answer g) p q) ∙ c.in-Ok.ensures.ok in
-    if_ok _ _ c.delta_course.result (λ x f budget w low left_is. f budget w c.args.first c.args.second low left_is (delta_of_pair g s c.args.first c.args.second c.requires.pair ∙ d)) c.delta_course.ensures.course
+    if_ok _ _ c.delta_course.result (λ x f budget w low left_is. f budget w c.args.first c.args.second low left_is (delta_of_pair g s c.args.first c.args.second c.requires.pair ∙ d) c.requires.pair) c.delta_course.ensures.course
 
 pub returns-in-Err-Wide-clause-course : goal.returns-in-Err-Wide-clause-course
 returns-in-Err-Wide-clause-course c = λ budget w low left_is.

@@ -5,4 +5,4 @@ use Rattle.dz_tree.proofs.next_actions.drafted_to.Goals as goal
 
 pub unreachable-requires : goal.unreachable-requires
 unreachable-requires c =
-    no_other_known (setting_of c.args.book.now.ranking) (state_in c.args.book.now c.args.state.now) c.args.next.now c.args.end c.in_default.not-Reduce c.in_default.not-Weed c.in_default.not-Separant c.requires.end
+    no_other_known (setting_of c.args.book.now.ranking) (state_in c.args.book.now c.args.state.now) c.args.next.now c.args.end c.in_default.not-Reduce c.in_default.not-Weed c.in_default.not-Pair c.in_default.not-Separant c.requires.end
