@@ -13,7 +13,7 @@ use Rattle.dz_cert.specs.declared.checking.DocumentVerdict.TheVariants as verdic
 use Rattle.dz_engine.specs.Worked.{worked_tree}
 use Rattle.dz_report.specs.declared.ending.ReportEnd.{ReportEnd}
 use Rattle.dz_report.specs.declared.ending.ReportEnd.TheVariants as reports
-use Rattle.dz_series.specs.Jets.{Values}
+use Rattle.dz_jet.specs.Jets.{Values}
 use Rattle.dz_series.specs.SeriesReports.{SeriesEnding, done, wide, large, refused, series_report}
 use Rattle.dz_syntax.specs.declared.endings.Form.{Form}
 use Rattle.dz_syntax.specs.declared.fault.SyntaxFault.{SyntaxFault}

@@ -4,7 +4,7 @@ use Rattle.dz_diff.specs.State.{State}
 use Rattle.dz_diff.specs.States.{StateValue, state_in}
 use Rattle.dz_poly.specs.Books.{BookValue, IsKept}
 use Rattle.dz_rank.specs.Rankings.{RankingValue}
-use Rattle.dz_series.specs.Jets.{Values}
+use Rattle.dz_jet.specs.Jets.{Values}
 use Rattle.dz_series.specs.SeriesReports.{SeriesEnding, SeriesReport, refused}
 use Rattle.dz_syntax.specs.Names.{Declared}
 use Rattle.dz_tree.specs.Root.{System}

@@ -5,14 +5,14 @@ use Rattle.dz_rank.specs.Rankings.{RankingValue, IsOrderly}
 use Rattle.dz_terms.specs.Ranked.{symbols_under}
 use Rattle.dz_diff.specs.State.{State}
 use Rattle.dz_syntax.specs.Names.{Declared}
-use Rattle.dz_series.specs.declared.faults.JetFault.{JetFault}
-use Rattle.dz_series.specs.declared.faults.JetFault.TheVariants as faults
-use Rattle.dz_series.specs.Jets.{JetValue, Values, jet_answer, jet_order}
-use Rattle.dz_series.specs.Orderliness.{is_orderly}
+use Rattle.dz_jet.specs.declared.faults.JetFault.{JetFault}
+use Rattle.dz_jet.specs.declared.faults.JetFault.TheVariants as faults
+use Rattle.dz_jet.specs.Jets.{JetValue, Values, jet_answer, jet_order}
+use Rattle.dz_jet.specs.Orderliness.{is_orderly}
 use Rattle.dz_series.specs.Series.{series_answer}
 use Rattle.dz_series.specs.SeriesReports.{SeriesReport, fault_report, jet_report, lines_report, series_report}
-use Rattle.dz_series.specs.Stops.{IsFault}
-use Rattle.dz_series.proofs.OrderlyTests.{orderly_tested}
+use Rattle.dz_jet.specs.Stops.{IsFault}
+use Rattle.dz_jet.proofs.OrderlyTests.{orderly_tested}
 
 module _ (r : RankingValue) (names : Declared) (k : ℕ) (s : State) (known : Values) (n : ℕ) where
   -- by the test of the ranking

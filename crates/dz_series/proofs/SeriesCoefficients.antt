@@ -10,14 +10,14 @@ use Rattle.dz_rank.specs.declared.rankings.Signature.{Signature}
 use Rattle.dz_rank.specs.declared.symbols.Symbol.{Symbol}
 use Rattle.dz_rank.specs.Symbols.{BelongsTo}
 use Rattle.dz_syntax.specs.Names.{Declared}
-use Rattle.dz_series.specs.Fractions.{whole, quotient_answer}
-use Rattle.dz_series.specs.Jets.{Values}
+use Rattle.dz_jet.specs.Fractions.{whole, quotient_answer}
+use Rattle.dz_jet.specs.Jets.{Values}
 use Rattle.dz_series.specs.Series.{SeriesStop, by_factorial, coefficient_answer, series_answer, wide_at}
 use Rattle.dz_series.specs.Writing.{lines_text}
-use Rattle.dz_series.proofs.FilteredLists.{found_is}
-use Rattle.dz_series.proofs.FoldSteps.{read_whole}
-use Rattle.dz_series.proofs.FoldValues.{inverse_is}
-use Rattle.dz_series.proofs.FractionAnswers.{product_answered}
+use Rattle.dz_jet.proofs.FilteredLists.{found_is}
+use Rattle.dz_jet.proofs.FoldSteps.{read_whole}
+use Rattle.dz_jet.proofs.FoldValues.{inverse_is}
+use Rattle.dz_jet.proofs.FractionAnswers.{product_answered}
 
 -- ---- factorials
 -- a divisor that a call makes

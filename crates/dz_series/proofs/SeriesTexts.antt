@@ -16,9 +16,9 @@ use Rattle.dz_syntax.specs.Names.{Declared}
 use Rattle.dz_form.specs.Texts.{joined, name_numbered}
 use Rattle.dz_form.specs.Writing.{marked}
 use Rattle.dz_form.proofs.Marks.{marked-append, marked_joined, still}
-use Rattle.dz_series.specs.Jets.{Values}
+use Rattle.dz_jet.specs.Jets.{Values}
 use Rattle.dz_series.specs.Series.{displacements, points_of, size_text, summand_text}
-use Rattle.dz_series.specs.Writable.{IsWritable}
+use Rattle.dz_jet.specs.Writable.{IsWritable}
 use Rattle.dz_series.specs.Writing.{is_unit, power_text, powers, terms_text}
 
 -- ---- the powers of displacements

@@ -10,8 +10,8 @@ use Rattle.dz_rank.specs.declared.symbols.Symbol.TheVariants.{Independent, Deriv
 use Rattle.dz_rank.specs.Symbols.{is_derivative}
 use Rattle.dz_syntax.specs.Names.{Declared}
 use Rattle.dz_form.specs.Texts.{joined, name_numbered, symbol_text}
-use Rattle.dz_series.specs.Fractions.{whole, is_zero_fraction, quotient_answer}
-use Rattle.dz_series.specs.Jets.{Values}
+use Rattle.dz_jet.specs.Fractions.{whole, is_zero_fraction, quotient_answer}
+use Rattle.dz_jet.specs.Jets.{Values}
 
 -- ---- numbers
 -- an absolute value: the numerator, and the denominator where that is not 1

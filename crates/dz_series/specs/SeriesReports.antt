@@ -8,14 +8,14 @@ use Rattle.dz_diff.specs.State.{State}
 use Rattle.dz_syntax.specs.Names.{Declared}
 use Rattle.dz_form.specs.Limits.{limit_word}
 use Rattle.dz_form.specs.Texts.{symbol_text}
-use Rattle.dz_series.specs.declared.faults.At.{At}
-use Rattle.dz_series.specs.declared.faults.At.TheVariants as ats
-use Rattle.dz_series.specs.declared.faults.JetFault.{JetFault}
-use Rattle.dz_series.specs.declared.faults.JetFault.TheVariants as faults
-use Rattle.dz_series.specs.declared.faults.Part.{Part}
-use Rattle.dz_series.specs.declared.faults.Part.TheVariants.{Equation, Initial, Separant, Inequation}
-use Rattle.dz_series.specs.Jets.{Values, jet_answer, jet_order}
-use Rattle.dz_series.specs.Orderliness.{is_orderly}
+use Rattle.dz_jet.specs.declared.faults.At.{At}
+use Rattle.dz_jet.specs.declared.faults.At.TheVariants as ats
+use Rattle.dz_jet.specs.declared.faults.JetFault.{JetFault}
+use Rattle.dz_jet.specs.declared.faults.JetFault.TheVariants as faults
+use Rattle.dz_jet.specs.declared.faults.Part.{Part}
+use Rattle.dz_jet.specs.declared.faults.Part.TheVariants.{Equation, Initial, Separant, Inequation}
+use Rattle.dz_jet.specs.Jets.{Values, jet_answer, jet_order}
+use Rattle.dz_jet.specs.Orderliness.{is_orderly}
 use Rattle.dz_series.specs.Series.{SeriesStop, wide_at, fraction_text, series_answer}
 
 -- how a report ends: with all lines; at a value or a coefficient that does not fit; at an operation that is not small;

@@ -6,7 +6,7 @@ use Rattle.std.specs.List.{flat_map, range_with_len}
 use Rattle.dz_int.specs.Fractions.{Fraction}
 use Rattle.dz_rank.specs.declared.rankings.Signature.{Signature}
 use Rattle.dz_syntax.specs.Names.{Declared}
-use Rattle.dz_series.specs.Jets.{Values}
+use Rattle.dz_jet.specs.Jets.{Values}
 use Rattle.dz_series.specs.Series.{displacement_text, more_summands_text, series_line, sum_text, value_line}
 
 -- the absolute value is 1

@@ -1,7 +1,7 @@
 //! The texts of fractions and of displacements.
 
 ghost use Rattle.std.specs.Prelude.{◌≡◌, ◌++◌, [], cond, codes, decimal, not, OnOk};
-ghost use Rattle.dz_series.specs.Fractions.{is_zero_fraction};
+ghost use Rattle.dz_jet.specs.Fractions.{is_zero_fraction};
 ghost use Rattle.dz_series.specs.Series.{displacement_text, fraction_text, is_below_zero, size_text};
 ghost use Rattle.dz_series.specs.Writing.{is_unit, power_text};
 

@@ -10,12 +10,12 @@ ghost use Rattle.dz_form.specs.Texts.{joined};
 ghost use Rattle.dz_form.specs.Writing.{marked};
 ghost use Rattle.dz_series.specs.Series.{coefficient_answer, displacements, points_of};
 ghost use Rattle.dz_series.specs.Series.{size_text, sum_text, summand, summand_text};
-ghost use Rattle.dz_series.specs.Writable.{IsWritable};
+ghost use Rattle.dz_jet.specs.Writable.{IsWritable};
 ghost use Rattle.dz_series.specs.Writing.{is_unit, powers, terms_text};
 
-use crate::leading::is_proper;
 use crate::numbers::{is_below_zero, is_unit, is_zero, push_power, push_sign, push_size};
 use dz_int::Frac;
+use dz_jet::is_proper;
 use dz_rank::{Operator, Symbol};
 use dz_syntax::Names;
 use std::alloc::AllocError;

@@ -7,16 +7,16 @@ ghost use Rattle.dz_syntax.specs.Names.{dependents, signature_of};
 ghost use Rattle.dz_form.specs.Texts.{name_numbered};
 ghost use Rattle.dz_series.specs.Series.{coefficient_answer, series_answer, series_line, value_line};
 ghost use Rattle.dz_series.specs.SeriesStops.{IsStopOf};
-ghost use Rattle.dz_series.specs.Writable.{IsWritable};
+ghost use Rattle.dz_jet.specs.Writable.{IsWritable};
 ghost use Rattle.dz_series.specs.Writing.{lines_text};
 
 use crate::coefficients::coefficients;
 use crate::faults::SeriesFault;
-use crate::jets::Jet;
 use crate::numbers::push_fraction;
 use crate::sums::push_sum;
 use dz_form::push_symbol;
 use dz_int::Frac;
+use dz_jet::Jet;
 use dz_rank::{Signature, Symbol};
 use dz_syntax::Names;
 use std::alloc::{AllocError, Global};

@@ -1,7 +1,7 @@
 use Rattle.std.proofs.Common.{◌<◌, ◌∙◌, length, map, slice_index_or, sym, ap, arith}
 use Rattle.std.proofs.lemmas.List.{take_all}
 use Rattle.dz_series.specs.Series.{coefficient_answer}
-use Rattle.dz_series.proofs.FoldSteps.{any_default}
+use Rattle.dz_jet.proofs.FoldSteps.{any_default}
 use Rattle.dz_series.proofs.SeriesCoefficients.{series_fits, series_stops}
 use Rattle.dz_series.proofs.coefficients.coefficients.Goals as goal
 

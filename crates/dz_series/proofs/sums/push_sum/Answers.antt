@@ -1,6 +1,6 @@
 use Rattle.std.proofs.Common.{◌∙◌, ◌++◌, length, take, Some, sym, ap, ap₂, arith}
 use Rattle.dz_syntax.specs.Names.{signature_of}
-use Rattle.dz_series.specs.Jets.{Values}
+use Rattle.dz_jet.specs.Jets.{Values}
 use Rattle.dz_series.specs.Series.{coefficient_answer, points_of, summand}
 use Rattle.dz_series.specs.Writing.{terms_text}
 use Rattle.dz_series.proofs.SeriesCoefficients.{coefficient_at}

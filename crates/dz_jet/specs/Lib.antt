@@ -1,0 +1,15 @@
+pub mod Derivatives
+pub mod Chains
+pub mod Clashes
+pub mod Laws
+pub mod Fractions
+pub mod Jets
+pub mod Examples
+pub mod Stops
+pub mod Tables
+pub mod Fixing
+pub mod Making
+pub mod Listing
+pub mod Orderliness
+pub mod Writable
+pub mod FaultSymbols
