@@ -1,5 +1,5 @@
 -- A certified tree whose lines have no open end is complete.
-use Rattle.std.specs.Prelude.{unwrap_or}
+use Rattle.std.specs.Prelude.{IsOk, unwrap_or}
 use Rattle.std.proofs.Common.{◌≡◌, ◌∙◌, ◌+◌, ◌++◌, ◌&&◌, ℕ, nat_le, Bool, true, false, List, [], ◌∷◌, length, map, refl, sym, ap, subst, None, Result, Ok, Err}
 use Rattle.dz_diff.specs.Operations.{Setting}
 use Rattle.dz_diff.specs.Outcome.{◌>>=◌, told_as}
@@ -9,9 +9,11 @@ use Rattle.dz_tree.specs.Certified.{IsCertified}
 use Rattle.dz_tree.specs.Chain.{Evidence, chain_weight}
 use Rattle.dz_tree.specs.Lines.{Line, act, closed, chain, pair, spent, spent_pairs, open_wide, open_separant, open_large, Entry, entries_of, lines_of}
 use Rattle.dz_tree.specs.Moves.{perform}
+use Rattle.dz_tree.specs.Reasons.{reason_holds}
 use Rattle.dz_tree.specs.Root.{System, is_closed, root_of}
 use Rattle.dz_tree.specs.Walk.{Below, End, Tree, all_chains, ended, ends_in, ends_of, entered, is_chain_end, nothing_below, told_at_line, walk}
 use Rattle.dz_tree.specs.declared.Rule.{Rule}
+use Rattle.dz_tree.proofs.Certifying.{answer_certified}
 use Rattle.dz_tree.proofs.TreeEntries.{lines_of_entries}
 use Rattle.dz_run.specs.declared.ending.Ending.{Ending}
 use Rattle.dz_run.specs.declared.ending.Ending.TheVariants.{Done}
@@ -44,6 +46,15 @@ chains_joined (x ∷ xs) ys h k = by_test (is_chain_end x) h (λ i. chains_joine
     by_test : (b : Bool) → (b && all_chains xs) ≡ true → (all_chains xs ≡ true → all_chains (xs ++ ys) ≡ true) → (b && all_chains (xs ++ ys)) ≡ true
     by_test true h ih = ih h
     by_test false h ih = h
+
+-- and each of two lists, where both have chains alone
+chains_split : (xs ys : List End) → all_chains (xs ++ ys) ≡ true → (all_chains xs ≡ true) × (all_chains ys ≡ true)
+chains_split [] ys h = (refl, h)
+chains_split (x ∷ xs) ys h = by_test (is_chain_end x) h (λ i. chains_split xs ys i)
+  where
+    by_test : (b : Bool) → (b && all_chains (xs ++ ys)) ≡ true → (all_chains (xs ++ ys) ≡ true → (all_chains xs ≡ true) × (all_chains ys ≡ true)) → ((b && all_chains xs) ≡ true) × (all_chains ys ≡ true)
+    by_test true h ih = ih h
+    by_test false h ih = absurd cc
 
 module _ (g : Setting) where
   -- what an entry leaves, whose line is no open end
@@ -96,3 +107,47 @@ module _ (g : Setting) where
       by_answer : (q : Result (List End) (ℕ × Rule)) → ends_of g system tree ≡ q → all_chains (ends_in q) ≡ true
       by_answer (Ok ends) e = ends_chains system tree ends (ap lines_ending (lines_of_entries tree.lines certified.formed.lines) ∙ n) e
       by_answer (Err r) e = refl
+
+  -- ---- and the other way round
+  -- an end that is open is no chain
+  open_at : (budget w : ℕ) (s : State) (line : Line) (es : List Evidence) (b : Below) → entered g budget w s line es ≡ Ok b → all_chains b.ends ≡ true → open_ending line ≡ None
+  unfolding entered
+  open_at budget w s (act action) es b e c = refl
+  open_at budget w s closed es b e c = refl
+  open_at budget w s chain es b e c = refl
+  open_at budget w s (pair x) es b e c = refl
+  open_at budget w s (spent action) es b e c = absurd (let k = ap (λ b. all_chains b.ends) (ok_same (ended (spent action) s 0) b (then_ok (reason_holds g budget w s (spent action) es) _ _ b e).1) ∙ c in cc)
+  open_at budget w s spent_pairs es b e c = absurd (let k = ap (λ b. all_chains b.ends) (ok_same (ended spent_pairs s 0) b (then_ok (reason_holds g budget w s spent_pairs es) _ _ b e).1) ∙ c in cc)
+  open_at budget w s (open_wide action) es b e c = absurd (let k = ap (λ b. all_chains b.ends) (ok_same (ended (open_wide action) s 0) b (then_ok (reason_holds g budget w s (open_wide action) es) _ _ b e).1) ∙ c in cc)
+  open_at budget w s (open_separant i) es b e c = absurd (let k = ap (λ b. all_chains b.ends) (ok_same (ended (open_separant i) s 0) b (then_ok (reason_holds g budget w s (open_separant i) es) _ _ b e).1) ∙ c in cc)
+  open_at budget w s (open_large limit action) es b e c = absurd (let k = ap (λ b. all_chains b.ends) (ok_same (ended (open_large limit action) s 0) b (then_ok (reason_holds g budget w s (open_large limit action) es) _ _ b e).1) ∙ c in cc)
+
+  -- the lines below the pending states, where all ends are chains
+  walked_done : (budget w place : ℕ) (pending : List State) (es : List Entry) (ends : List End) → all_chains ends ≡ true → walk g budget w place pending es ≡ Ok ends → lines_ending (lines_of es) ≡ Done
+  walked_done budget w place [] [] ends c e = refl
+  walked_done budget w place (s ∷ pending) [] ends c e = cc
+  walked_done budget w place [] (x ∷ es) ends c e = cc
+  walked_done budget w place (s ∷ pending) (x ∷ es) ends c e =
+      by_entry (entered g budget w s x.line x.evidence) refl (λ b ends k f. walked_done budget (w + b.weight) (place + 1 + length x.evidence) (b.states ++ pending) es ends k f) e
+    where
+      by_entry : (q : Result Below (ℕ × Rule)) → entered g budget w s x.line x.evidence ≡ q
+          → ((b : Below) (ends : List End) → all_chains ends ≡ true → walk g budget (w + b.weight) (place + 1 + length x.evidence) (b.states ++ pending) es ≡ Ok ends → lines_ending (lines_of es) ≡ Done)
+          → (elim q as (λ _. Result (List End) (ℕ × Rule)) [
+            | Err r ↦ Err (place + r.0, r.1)
+            | Ok b ↦ walk g budget (w + b.weight) (place + 1 + length x.evidence) (b.states ++ pending) es >>= (λ ends. Ok (b.ends ++ ends))
+          ]) ≡ Ok ends → unwrap_or (open_ending x.line) (lines_ending (map pair x.evidence ++ lines_of es)) ≡ Done
+      by_entry (Err r) f ih e = cc
+      by_entry (Ok b) f ih e =
+          let a = bind_ok (walk g budget (w + b.weight) (place + 1 + length x.evidence) (b.states ++ pending) es) _ ends e in
+          let both = chains_split b.ends a.0 (ap all_chains (ok_same (b.ends ++ a.0) ends a.2) ∙ c) in
+          ap (λ o. unwrap_or o (lines_ending (map pair x.evidence ++ lines_of es))) (open_at budget w s x.line x.evidence b f both.0) ∙ behind_evidence x.evidence (lines_of es) ∙ ih b a.0 both.1 a.1
+
+  -- a tree that is certified and complete has no line that is an open end
+  pub complete_is_done : (system : System) (tree : Tree) → IsCertified g system tree → all_chains (ends_in (ends_of g system tree)) ≡ true → lines_ending tree.lines ≡ Done
+  unfolding ends_of
+  complete_is_done system tree certified c = by_answer (walk g tree.budget 0 1 (root_of g.symbols system ∷ []) (entries_of tree.lines)) refl (answer_certified g system tree certified)
+    where
+      by_answer : (q : Result (List End) (ℕ × Rule)) → walk g tree.budget 0 1 (root_of g.symbols system ∷ []) (entries_of tree.lines) ≡ q
+          → IsOk (walk g tree.budget 0 1 (root_of g.symbols system ∷ []) (entries_of tree.lines)) → lines_ending tree.lines ≡ Done
+      by_answer (Ok ends) e is = ap lines_ending (sym (lines_of_entries tree.lines certified.formed.lines)) ∙ walked_done tree.budget 0 1 (root_of g.symbols system ∷ []) (entries_of tree.lines) ends (ap (λ q. all_chains (ends_in q)) (sym e) ∙ c) e
+      by_answer (Err r) e is = absurd (let k = subst IsOk e is in cc)

@@ -7,5 +7,6 @@ pub mod Asked
 pub mod Charted
 pub mod Sampled
 pub mod Verbs
+pub mod Accepted
 pub mod Run
 pub mod Headline

@@ -7,6 +7,7 @@ mod charting;
 mod checking;
 mod decomposing;
 mod ending;
+pub mod laws;
 mod message;
 mod run;
 mod sampling;

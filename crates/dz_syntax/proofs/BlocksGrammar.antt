@@ -83,7 +83,7 @@ block_complete kind names text all block rest a =
     ∙ on_ok (expected (is_close_bracket (front a.1)) a.1) rest (λ t. Ok (all, made kind names all, t)) (stands_complete is_close_bracket a.1 rest a.4)
     ∙ ap (λ (b : BlockValue). Ok (all, b, rest)) (sym a.5)
 
-block_within : (kind : Kind) (names : Declared) (text : List ℕ) (all : Declared) (block : BlockValue) (rest : List ℕ) → IsBlock kind names text all block rest → length rest ≤ length text
+pub block_within : (kind : Kind) (names : Declared) (text : List ℕ) (all : Declared) (block : BlockValue) (rest : List ℕ) → IsBlock kind names text all block rest → length rest ≤ length text
 block_within kind names text all block rest a =
     rw a.4.1 (omega (arith, behind_within a.1, names_within Dependents (room names) names a.0 all a.1 a.3, ap length a.2.1, behind_within text))
 
@@ -146,7 +146,7 @@ blocks_complete (suc n) (suc fuel) names found text all others last rest lt a en
     ∙ blocks_complete n fuel a.1 (found ++ a.2 ∷ []) a.3 all a.4 last rest (omega (arith, lt)) a.7 ends
     ∙ ap (λ (l : List BlockValue). Ok (all, l, rest)) (append_assoc found (a.2 ∷ []) a.4 ∙ ap (λ (l : List BlockValue). found ++ l) (sym a.8))
 
-blocks_within : (n : ℕ) (names : Declared) (text : List ℕ) (all : Declared) (others : List BlockValue) (last : List ℕ) → IsBlocks n names text all others last → n + length last ≤ length text
+pub blocks_within : (n : ℕ) (names : Declared) (text : List ℕ) (all : Declared) (others : List BlockValue) (last : List ℕ) → IsBlocks n names text all others last → n + length last ≤ length text
 blocks_within zero names text all others last a = rw a.2 (omega arith)
 blocks_within (suc n) names text all others last a =
     omega (arith, behind_shorter text (kind_is_token (front text) a.0 a.5), block_within a.0 names (behind text) a.1 a.2 a.3 a.6, blocks_within n a.1 a.3 all a.4 last a.7)

@@ -81,10 +81,10 @@ sides_complete section names text o rest (inr a) ends =
     ∙ on_ok (poly_with names (inside names 64) (past s)) (then (past s) a.1 rest) (λ s. Ok (s.out ++ ops.Sub ∷ [], s.text)) (side_read names (past s) a.1 rest a.5 (ends_binds (front rest) ends))
     ∙ ap (λ (l : List Op). Ok (l, rest)) (sym a.6)
 
-side_within : (names : Declared) (text : List ℕ) (o : List Op) (rest : List ℕ) → IsPoly names (IsInside names 64) text o rest → length rest ≤ length text
+pub side_within : (names : Declared) (text : List ℕ) (o : List Op) (rest : List ℕ) → IsPoly names (IsInside names 64) text o rest → length rest ≤ length text
 side_within names text o rest p = poly_within names (IsInside names 64) (inside_within names 64) text o rest p
 
-sides_within : (section : Section) (names : Declared) (text : List ℕ) (o : List Op) (rest : List ℕ) → IsSides section names text o rest → length rest ≤ length text
+pub sides_within : (section : Section) (names : Declared) (text : List ℕ) (o : List Op) (rest : List ℕ) → IsSides section names text o rest → length rest ≤ length text
 sides_within section names text o rest (inl p) = side_within names text o rest p
 sides_within section names text o rest (inr a) = omega (arith, side_within names text a.0 a.2 a.3, behind_within a.2, side_within names (behind a.2) a.1 rest a.5)
 

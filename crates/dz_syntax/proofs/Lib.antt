@@ -22,3 +22,8 @@ pub mod SystemExpressions
 pub mod SystemValues
 pub mod Ranked
 pub mod NameTokens
+pub mod Tails
+pub mod ReadTails
+pub mod Suffixes
+pub mod DocumentsFollow
+pub mod DeclaredNames

@@ -22,7 +22,7 @@ cond_within : (c : Bool) (x y : List ℕ) (n : ℕ) → length x ≤ n → lengt
 cond_within true x y n p q = p
 cond_within false x y n p q = q
 
-skip_within : (in_comment : Bool) (text : List ℕ) → length (skip_from in_comment text) ≤ length text
+pub skip_within : (in_comment : Bool) (text : List ℕ) → length (skip_from in_comment text) ≤ length text
 skip_within true [] = omega arith
 skip_within false [] = omega arith
 skip_within true (b ∷ rest) = omega (arith, skip_within (not (eqb b 10)) rest)
@@ -96,7 +96,7 @@ names_go_on_within more bound o Comma text x h fits e = omega (arith, h (behind 
 names_go_on_within more bound o CloseBracket text x h fits e = let k = ap (λ (p : Operator × List ℕ). length p.1) (ok_is _ x e) in omega (arith, k, behind_within text)
 names_go_on_within more bound o t text x h fits e = absurd cc
 
-names_in_within : (left : ℕ) (names : Declared) (o : Operator) (text : List ℕ) (x : Operator × List ℕ) → names_in left names o text ≡ Ok x → length x.1 ≤ length text
+pub names_in_within : (left : ℕ) (names : Declared) (o : Operator) (text : List ℕ) (x : Operator × List ℕ) → names_in left names o text ≡ Ok x → length x.1 ≤ length text
 unfolding names_in
 names_in_within zero names o text x e = let b = bind_ok (independent_at names text) (λ i. refuse Order text) x e in absurd (let f = b.2 in cc)
 names_in_within (suc left) names o text x e =

@@ -15,3 +15,4 @@ pub mod SystemGrammar
 pub mod Postfix
 pub mod Items
 pub mod Declarations
+pub mod Following

@@ -22,4 +22,4 @@ pub use expression::Op;
 pub use fault::{SyntaxFault, SyntaxKind};
 pub use item::{Item, one_reading, read_item};
 pub use names::Names;
-pub use system::{SystemTree, one_tree, read_system};
+pub use system::{SystemTree, documents_follow, one_tree, read_system};

@@ -3,12 +3,14 @@
 ghost use Rattle.std.specs.Prelude.{◌≡◌, [], ℕ, List, IfOk, Ok};
 ghost use Rattle.dz_rank.specs.Rankings.{IsRanking, block_values};
 ghost use Rattle.dz_syntax.specs.Faults.{Gives};
+ghost use Rattle.dz_syntax.specs.Following.{IsFollowed};
 ghost use Rattle.dz_syntax.specs.Names.{no_names, signature_of};
 ghost use Rattle.dz_syntax.specs.Items.{Answers};
 ghost use Rattle.dz_syntax.specs.Systems.{HasExpressions, HasValues, Tree, header_at, system_at};
 ghost use Rattle.dz_syntax.specs.Systems.{system_of, tree_of};
 ghost use Rattle.dz_syntax.specs.SystemGrammar.{IsSystem};
 ghost use Rattle.dz_syntax.specs.declared.endings.Form.{Form};
+ghost use Rattle.dz_syntax.specs.declared.endings.Form.TheVariants.{Plain};
 
 use crate::blocks::{blocks, independents};
 use crate::endings::{Form, rest};
@@ -127,4 +129,10 @@ pub fn read_system(alloc: Global, bytes: &[u8], form: Form) -> Result<SystemTree
 pub fn one_tree()
     ensures { (form : Form) (bytes : List ℕ) (a b : Tree)
         → IsSystem form bytes a → IsSystem form bytes b → a ≡ b }
+{}
+
+/// Behind the `end` of a plain system a line feed and any document may stand, and the system means the
+/// same. The law is for contracts alone: the call does nothing when it runs.
+pub fn documents_follow()
+    ensures { (bytes : List ℕ) (tree : Tree) → IsSystem Plain bytes tree → IsFollowed bytes tree }
 {}
