@@ -4,17 +4,18 @@ ghost use Rattle.std.specs.Prelude.{◌≡◌, All, IfOk, OnOk};
 ghost use Rattle.dz_poly.specs.Books.{IsKept, Lives};
 ghost use Rattle.dz_diff.specs.States.{LiveAll, StandsIn};
 ghost use Rattle.dz_syntax.specs.Names.{signature_of};
-ghost use Rattle.dz_tree.specs.Systems.{IsSystemIn};
+ghost use Rattle.dz_move.specs.Systems.{IsSystemIn};
 
 use crate::answering::{ByChain, tell_by_chains, tell_vanishing};
 use crate::texts::write_number;
 use dz_case::{CaseStop, book_for, read_case, system_of, values};
+use dz_check::chains;
 use dz_engine::decompose;
 use dz_engine::laws::worked_trees_are_certified;
+use dz_move::System;
 use dz_poly::{Book, Poly};
 use dz_step::State;
 use dz_syntax::{Form, Names};
-use dz_tree::{System, chains};
 use std::alloc::{AllocError, Global};
 
 /// The budget of every tree.

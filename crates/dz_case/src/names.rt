@@ -1,6 +1,6 @@
 //! The names of rules.
 
-use dz_tree::Rule;
+use dz_move::Rule;
 
 /// The name of a rule.
 pub fn rule_name(rule: Rule) -> &'static [u8] {

@@ -7,14 +7,14 @@ ghost use Rattle.dz_diff.specs.States.{LiveAll};
 ghost use Rattle.dz_syntax.specs.Names.{signature_of};
 ghost use Rattle.dz_syntax.specs.Postfix.{IsExpression};
 ghost use Rattle.dz_syntax.specs.Systems.{HasExpressions, tree_of};
-ghost use Rattle.dz_tree.specs.Systems.{IsSystemIn};
+ghost use Rattle.dz_move.specs.Systems.{IsSystemIn};
 
 use crate::CaseStop;
 use dz_form::expand;
+use dz_move::System;
 use dz_poly::{Book, Poly, PolyStop};
 use dz_rank::Ranking;
 use dz_syntax::{Form, Item, SyntaxKind, SystemTree, read_system};
-use dz_tree::System;
 use std::alloc::Global;
 
 /// The system of a case, as it is written: in the form of plain systems, or of systems with questions.

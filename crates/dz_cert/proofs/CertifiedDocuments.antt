@@ -1,14 +1,15 @@
 -- What a verdict on a tree tells, and the operators in lines of names.
 use Rattle.std.proofs.Common.{◌≡◌, ◌∙◌, sym, ap}
 use Rattle.dz_diff.specs.Operations.{Setting}
-use Rattle.dz_tree.specs.Certified.{IsCertified}
+use Rattle.dz_check.specs.Certified.{IsCertified}
 use Rattle.dz_tree.specs.Forms.{IsTree}
-use Rattle.dz_tree.specs.Root.{System}
-use Rattle.dz_tree.specs.TreeLines.{verdict_as}
-use Rattle.dz_tree.specs.Walk.{Tree, verdict_of}
-use Rattle.dz_tree.specs.declared.lines.Verdict.{Verdict}
-use Rattle.dz_tree.specs.declared.lines.Verdict.TheVariants as verdicts
-use Rattle.dz_tree.proofs.LawProofs.{tree_laws}
+use Rattle.dz_move.specs.Root.{System}
+use Rattle.dz_check.specs.Verdicts.{verdict_as}
+use Rattle.dz_tree.specs.Trees.{Tree}
+use Rattle.dz_check.specs.Walk.{verdict_of}
+use Rattle.dz_check.specs.declared.verdict.Verdict.{Verdict}
+use Rattle.dz_check.specs.declared.verdict.Verdict.TheVariants as verdicts
+use Rattle.dz_check.proofs.LawProofs.{tree_laws}
 
 -- a tree that is accepted is certified
 pub accepted_certified : (g : Setting) (system : System) (tree : Tree) (v : Verdict) → IsTree tree → verdict_as v ≡ verdict_of g system tree → v ≡ verdicts.Accepted → IsCertified g system tree

@@ -10,19 +10,20 @@ use Rattle.dz_diff.specs.State.{State}
 use Rattle.dz_diff.proofs.Answers.{bind_ok, ok_same, then_ok, told_ok}
 use Rattle.dz_rank.specs.Rankings.{RankingValue}
 use Rattle.dz_terms.specs.Ranked.{symbols_under}
-use Rattle.dz_tree.specs.Certified.{IsCertified}
-use Rattle.dz_tree.specs.Chain.{Evidence, chain_weight}
-use Rattle.dz_tree.specs.Lines.{Line, act, closed, chain, pair, spent, spent_pairs, open_wide, open_separant, open_large, Entry, entries_of, is_chain_line}
-use Rattle.dz_tree.specs.Moves.{perform}
-use Rattle.dz_tree.specs.Reasons.{reason_holds}
-use Rattle.dz_tree.specs.Root.{System, is_closed, root_of}
-use Rattle.dz_tree.specs.Standing.{IsStateOver, MayStand}
-use Rattle.dz_tree.specs.Systems.{system_limit}
-use Rattle.dz_tree.specs.Walk.{Below, End, Tree, chains_of, ended, ends_in, ends_of, entered, is_chain_end, nothing_below, told_at_line, walk}
-use Rattle.dz_tree.specs.declared.Rule.{Rule}
-use Rattle.dz_tree.specs.declared.Rule.TheVariants as rules
-use Rattle.dz_tree.proofs.Certifying.{answer_certified}
-use Rattle.dz_tree.proofs.StateFacts.{state_laws}
+use Rattle.dz_check.specs.Certified.{IsCertified}
+use Rattle.dz_tree.specs.Chain.{chain_weight}
+use Rattle.dz_move.specs.Lines.{Evidence, Line, act, closed, chain, pair, spent, spent_pairs, open_wide, open_separant, open_large, Entry, entries_of, is_chain_line}
+use Rattle.dz_move.specs.Moves.{perform}
+use Rattle.dz_check.specs.Reasons.{reason_holds}
+use Rattle.dz_move.specs.Root.{System, is_closed, root_of}
+use Rattle.dz_move.specs.Standing.{IsStateOver, MayStand}
+use Rattle.dz_move.specs.Systems.{system_limit}
+use Rattle.dz_tree.specs.Trees.{Tree}
+use Rattle.dz_check.specs.Walk.{Below, End, chains_of, ended, ends_in, ends_of, entered, is_chain_end, nothing_below, told_at_line, walk}
+use Rattle.dz_move.specs.declared.Rule.{Rule}
+use Rattle.dz_move.specs.declared.Rule.TheVariants as rules
+use Rattle.dz_check.proofs.Certifying.{answer_certified}
+use Rattle.dz_move.proofs.StateFacts.{state_laws}
 use Rattle.dz_cert.specs.Documents.{chain_count}
 
 -- ---- lists

@@ -2,12 +2,13 @@
 use Rattle.std.proofs.Common.{◌≡◌, ◌↔◌, ◌⊎◌, inl, inr, ℕ, Bool, true, false, cond, List, Option, Some, None, Result, Ok, Err, IsOk, refl, sym, ap, ◌∙◌}
 use Rattle.dz_diff.specs.Operations.{Setting}
 use Rattle.dz_syntax.specs.Names.{Declared}
-use Rattle.dz_tree.specs.Certified.{IsCertified}
+use Rattle.dz_check.specs.Certified.{IsCertified}
 use Rattle.dz_tree.specs.Forms.{IsTree}
-use Rattle.dz_tree.specs.Root.{System}
-use Rattle.dz_tree.specs.Walk.{End, Tree, Verdict, accepted, partial, rejected, all_chains, ends_in, ends_of, judged, verdict_of}
-use Rattle.dz_tree.specs.declared.Rule.{Rule}
-use Rattle.dz_tree.proofs.LawProofs.{tree_laws}
+use Rattle.dz_move.specs.Root.{System}
+use Rattle.dz_tree.specs.Trees.{Tree}
+use Rattle.dz_check.specs.Walk.{End, Verdict, accepted, partial, rejected, all_chains, ends_in, ends_of, judged, verdict_of}
+use Rattle.dz_move.specs.declared.Rule.{Rule}
+use Rattle.dz_check.proofs.LawProofs.{tree_laws}
 use Rattle.dz_cert.specs.declared.checking.DocumentVerdict.{DocumentVerdict}
 use Rattle.dz_cert.specs.declared.checking.DocumentVerdict.TheVariants as verdicts
 use Rattle.dz_cert.specs.Documents.{ChainTexts, IsDocument, chain_texts, document_of, document_text}

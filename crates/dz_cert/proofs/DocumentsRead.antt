@@ -12,14 +12,14 @@ use Rattle.dz_form.proofs.CutTexts.{lacks}
 use Rattle.dz_form.proofs.TextTokens.{both_true}
 use Rattle.dz_tree.specs.Counting.{form_trees, left_after, expected_after, lets_line, may_stand}
 use Rattle.dz_tree.specs.Forms.{is_spelled}
-use Rattle.dz_tree.specs.Lines.{Line, act, closed, chain, pair, spent, spent_pairs, open_wide, open_separant, open_large, is_chain_line}
+use Rattle.dz_move.specs.Lines.{Line, act, closed, chain, pair, spent, spent_pairs, open_wide, open_separant, open_large, is_chain_line}
 use Rattle.dz_cert.specs.declared.reader.Stage.{Stage}
 use Rattle.dz_cert.specs.declared.reader.Stage.TheVariants.{Budget, Tree, Lines, Sections, End}
 use Rattle.dz_cert.specs.CertFaults.{IsReadAs, ReadsDocument, tree_read}
 use Rattle.dz_cert.specs.declared.document.Document.{Document}
 use Rattle.dz_cert.specs.declared.reading.CertFault.{CertFault}
 use Rattle.dz_cert.specs.declared.reading.CertFault.TheVariants.{Memory, BadLine, EndsEarly, BytesAfter}
-use Rattle.dz_tree.specs.Walk as Walk
+use Rattle.dz_tree.specs.Trees as Trees
 use Rattle.dz_tree.proofs.TreeForms.{one_tree}
 use Rattle.dz_cert.specs.Documents.{AreTexts, ChainTexts, IsDocument, chain_count, chain_lines, document_lines, document_text, ended_lines, head_lines, is_text, is_text_byte, member_lines, numbered, section_lines, sections_from}
 use Rattle.dz_cert.specs.LineTexts.{IsLineOf, line_text}
@@ -331,7 +331,7 @@ lines_lack names [] d of = tt
 lines_lack names (line ∷ lines) d of = (line_text-lacks names line d of.0, lines_lack names lines d of.1)
 
 -- the lines of a document
-document_lacks : (names : Declared) (tree : Walk.Tree) (chains : List ChainTexts) → IsDeclared names → AllByRecursion (λ line. IsLineOf names line) tree.lines → AllByRecursion (λ c. AreTexts c) chains
+document_lacks : (names : Declared) (tree : Trees.Tree) (chains : List ChainTexts) → IsDeclared names → AllByRecursion (λ line. IsLineOf names line) tree.lines → AllByRecursion (λ c. AreTexts c) chains
     → AllLack 10 (document_lines names tree chains)
 unfolding document_lines
 document_lacks names tree chains d of texts =
@@ -341,21 +341,21 @@ document_lacks names tree chains d of texts =
 
 -- ---- documents
 -- a reading that gives a tree and texts for its chains
-pub record ReadsAs (names : Declared) (bytes : List ℕ) (tree : Walk.Tree) (chains : List ChainTexts) : Type 0 where
+pub record ReadsAs (names : Declared) (bytes : List ℕ) (tree : Trees.Tree) (chains : List ChainTexts) : Type 0 where
   pub reading : Reading
   pub reads : document_at names bytes ≡ Ok reading
   pub tree_is : tree_read reading ≡ tree
   pub chains_are : reading.chains ≡ chains
 
 -- the lines of a document are read, and give the tree and the texts
-lines_read : (names : Declared) (tree : Walk.Tree) (chains : List ChainTexts) (bytes : List ℕ) (last : Reading) → Goes names unread (document_lines names tree chains) last → is_done last.stage ≡ true → AllLack 10 (document_lines names tree chains)
+lines_read : (names : Declared) (tree : Trees.Tree) (chains : List ChainTexts) (bytes : List ℕ) (last : Reading) → Goes names unread (document_lines names tree chains) last → is_done last.stage ≡ true → AllLack 10 (document_lines names tree chains)
     → document_text names tree chains ≡ bytes → document_at names bytes ≡ Ok last
 unfolding document_at
 lines_read names tree chains bytes last goes done lack are =
     ap (λ (bs : List ℕ). read_from names 1 unread (slice_split (λ b. b == 10) bs)) (sym are) ∙ ap (read_from names 1 unread) (parts_are (document_lines names tree chains) lack) ∙ goes_read names 1 unread last (document_lines names tree chains) goes done
 
 -- the lines of a document go from the first to the last
-document_goes : (names : Declared) (tree : Walk.Tree) (chains : List ChainTexts) (mid last : Reading) → Goes names unread (head_lines tree.budget) (started tree.budget) → Goes names (started tree.budget) (map (λ line. line_text names line) tree.lines) mid
+document_goes : (names : Declared) (tree : Trees.Tree) (chains : List ChainTexts) (mid last : Reading) → Goes names unread (head_lines tree.budget) (started tree.budget) → Goes names (started tree.budget) (map (λ line. line_text names line) tree.lines) mid
     → Goes names mid (chain_lines chains) last → Goes names unread (document_lines names tree chains) last
 unfolding document_lines
 document_goes names tree chains mid last head lines sections =
@@ -363,7 +363,7 @@ document_goes names tree chains mid last head lines sections =
     (goes-append names unread (started tree.budget) mid (head_lines tree.budget) (map (λ line. line_text names line) tree.lines) head lines) sections
 
 -- bytes that spell a document are read as it
-pub document_at-text : (names : Declared) (tree : Walk.Tree) (chains : List ChainTexts) (bytes : List ℕ) → IsDeclared names → IsDocument names tree chains bytes → ReadsAs names bytes tree chains
+pub document_at-text : (names : Declared) (tree : Trees.Tree) (chains : List ChainTexts) (bytes : List ℕ) → IsDeclared names → IsDocument names tree chains bytes → ReadsAs names bytes tree chains
 document_at-text names tree chains bytes d is =
     let budget = is.is_tree.budget in
     let ls = lines_go names (started tree.budget) tree.lines d refl ((one_tree tree.lines).1 is.is_tree.lines) is.of_names in
@@ -381,7 +381,7 @@ document_at-text names tree chains bytes d is =
     start n = omega arith
 
 -- what a call answers for bytes that spell a document
-read_as : (result : Result Document CertFault) (read : Result Reading Fault) (r : Reading) (tree : Walk.Tree) (chains : List ChainTexts) → ReadsDocument result read → read ≡ Ok r → tree_read r ≡ tree → r.chains ≡ chains → IsReadAs result tree chains
+read_as : (result : Result Document CertFault) (read : Result Reading Fault) (r : Reading) (tree : Trees.Tree) (chains : List ChainTexts) → ReadsDocument result read → read ≡ Ok r → tree_read r ≡ tree → r.chains ≡ chains → IsReadAs result tree chains
 read_as (Ok d) (Ok q) r tree chains e is t c = let same : q ≡ r = cc in (e.0 ∙ ap tree_read same ∙ t, e.1 ∙ ap (λ (x : Reading). x.chains) same ∙ c)
 read_as (Ok d) (Err fault) r tree chains e is t c = absurd cc
 read_as (Err Memory) read r tree chains e is t c = tt
@@ -390,14 +390,14 @@ read_as (Err EndsEarly) read r tree chains e is t c = absurd (let bad = sym e �
 read_as (Err BytesAfter) read r tree chains e is t c = absurd (let bad = sym e ∙ is in cc)
 
 -- a call answers the document that the bytes spell
-pub reads_only : (names : Declared) (bytes : List ℕ) (result : Result Document CertFault) → IsDeclared names → ReadsDocument result (document_at names bytes) → (tree : Walk.Tree) (chains : List ChainTexts)
+pub reads_only : (names : Declared) (bytes : List ℕ) (result : Result Document CertFault) → IsDeclared names → ReadsDocument result (document_at names bytes) → (tree : Trees.Tree) (chains : List ChainTexts)
     → IsDocument names tree chains bytes → IsReadAs result tree chains
 reads_only names bytes result d exact tree chains is =
     let f = document_at-text names tree chains bytes d is in
     read_as result (document_at names bytes) f.reading tree chains exact f.reads f.tree_is f.chains_are
 
 -- two documents with the same bytes are one
-pub one_reading : (names : Declared) (bytes : List ℕ) (t u : Walk.Tree) (cs ds : List ChainTexts) → IsDeclared names → IsDocument names t cs bytes → IsDocument names u ds bytes → (t ≡ u) × (cs ≡ ds)
+pub one_reading : (names : Declared) (bytes : List ℕ) (t u : Trees.Tree) (cs ds : List ChainTexts) → IsDeclared names → IsDocument names t cs bytes → IsDocument names u ds bytes → (t ≡ u) × (cs ≡ ds)
 one_reading names bytes t u cs ds d is other =
     let f = document_at-text names t cs bytes d is in
     let g = document_at-text names u ds bytes d other in

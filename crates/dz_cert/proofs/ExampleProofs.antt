@@ -5,14 +5,14 @@ use Rattle.dz_algebra.specs.Norm.{norm, gcd}
 use Rattle.dz_algebra.specs.Size.{support, fits, refusal, operation}
 use Rattle.dz_rank.specs.Rankings.{ranking_cmp}
 use Rattle.dz_terms.specs.Ranked.{symbol_rate}
-use Rattle.dz_tree.specs.Root.{root_of}
+use Rattle.dz_move.specs.Root.{root_of}
 use Rattle.dz_form.specs.Texts.{operator_text, polynomial_text, symbol_text}
 use Rattle.dz_form.specs.Reading.{derivations, derivative_at, operator_at, symbol_at, with_name}
 use Rattle.dz_syntax.specs.Names.{find}
-use Rattle.dz_tree.specs.Moves.{reduced, weeded, grown, divided_at, split_at, factored}
+use Rattle.dz_move.specs.Moves.{reduced, weeded, grown, divided_at, split_at, factored}
 use Rattle.dz_tree.specs.Chain.{chain_rule, evidence_weight}
-use Rattle.dz_tree.specs.Reasons.{reason_holds}
-use Rattle.dz_tree.specs.Walk.{entered, ends_of}
+use Rattle.dz_check.specs.Reasons.{reason_holds}
+use Rattle.dz_check.specs.Walk.{entered, ends_of}
 use Rattle.dz_cert.specs.Documents.{chain_texts, document_lines, document_of}
 use Rattle.dz_cert.specs.Examples.{DocumentExamples, FaultExamples}
 use Rattle.dz_cert.specs.LineReading.{limit_at, line_at, number_at, place_at, step_at, which_at}

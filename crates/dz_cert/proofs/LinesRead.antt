@@ -22,11 +22,10 @@ use Rattle.dz_form.proofs.OperatorsRead as operators
 use Rattle.dz_form.proofs.SymbolsRead as symbols
 use Rattle.dz_form.proofs.TextTokens.{both_true}
 use Rattle.dz_form.proofs.TextsDiffer.{operator_text-injective, symbol_text-injective}
-use Rattle.dz_tree.specs.Chain.{Evidence}
 use Rattle.dz_tree.specs.Forms.{is_add, is_place, is_spelled, is_spelled_action, is_spelled_operator, is_spelled_step, is_spelled_symbol, takes_out}
-use Rattle.dz_tree.specs.Reasons.{is_empty}
-use Rattle.dz_tree.specs.Lines.{Line, act, closed, chain, pair, spent, spent_pairs, open_wide, open_separant, open_large}
-use Rattle.dz_tree.specs.Moves.{Action, reduce, weed, add, divide, split, factor}
+use Rattle.dz_tree.specs.Forms.{is_empty}
+use Rattle.dz_move.specs.Lines.{Evidence, Line, act, closed, chain, pair, spent, spent_pairs, open_wide, open_separant, open_large}
+use Rattle.dz_move.specs.Moves.{Action, reduce, weed, add, divide, split, factor}
 use Rattle.dz_cert.specs.declared.words.Word.{Word}
 use Rattle.dz_cert.specs.declared.words.Word.TheVariants as words
 use Rattle.dz_cert.specs.LineReading.{factor_at, limit_at, line_at, line_from, next_by, pair_at, place_at, positive, run_at, split_at, step_at, steps_at, which_at}

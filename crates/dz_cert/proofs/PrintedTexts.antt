@@ -21,7 +21,7 @@ use Rattle.dz_syntax.specs.Tokens.{is_name_byte}
 use Rattle.dz_terms.specs.Entries.{IsKeepable}
 use Rattle.dz_form.proofs.FitPowers.{keepable_writable}
 use Rattle.dz_form.specs.Texts.{IsReadablePower, IsReadableTerm, IsWritable, is_identity, joined, more_terms_text, name_numbered, number_text, polynomial_text, power_text, powers_text, symbol_text, term_text, derivations_text}
-use Rattle.dz_tree.specs.Standing.{IsStateOver}
+use Rattle.dz_move.specs.Standing.{IsStateOver}
 use Rattle.dz_cert.specs.Documents.{AreTexts, canonical_texts, is_text, is_text_byte}
 use Rattle.dz_cert.proofs.Found.{and_true}
 use Rattle.dz_cert.proofs.PassedTexts.{AllPass, IsPassed, decimal_passes, either_passes, joined_passes, pass-append, symbol_passes}

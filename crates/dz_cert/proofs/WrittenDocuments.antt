@@ -12,11 +12,12 @@ use Rattle.dz_rank.specs.Rankings.{RankingValue}
 use Rattle.dz_rank.specs.declared.rankings.Signature.{Signature}
 use Rattle.dz_syntax.specs.Names.{Declared, IsDeclared, signature_of}
 use Rattle.dz_terms.specs.Entries.{IsKeepable}
-use Rattle.dz_tree.specs.Certified.{IsCertified}
-use Rattle.dz_tree.specs.Root.{System}
-use Rattle.dz_tree.specs.Standing.{IsStateOver}
-use Rattle.dz_tree.specs.Systems.{IsSystemIn, SystemValue, system_in}
-use Rattle.dz_tree.specs.Walk.{Tree, chains_of, ends_in, ends_of}
+use Rattle.dz_check.specs.Certified.{IsCertified}
+use Rattle.dz_move.specs.Root.{System}
+use Rattle.dz_move.specs.Standing.{IsStateOver}
+use Rattle.dz_move.specs.Systems.{IsSystemIn, SystemValue, system_in}
+use Rattle.dz_tree.specs.Trees.{Tree}
+use Rattle.dz_check.specs.Walk.{chains_of, ends_in, ends_of}
 use Rattle.dz_cert.specs.Documents.{AreTexts, IsDocument, canonical_texts, chain_texts, document_of}
 use Rattle.dz_cert.specs.Laws.{DocumentLaws, IsWritten}
 use Rattle.dz_cert.specs.LineTexts.{IsLineOf}

@@ -8,10 +8,11 @@ use Rattle.std.proofs.lemmas.Option.{get_or_from_slice_get, slice_get_within}
 use Rattle.std.proofs.lemmas.Simd.{map-map}
 use Rattle.dz_diff.specs.Operations.{Setting}
 use Rattle.dz_diff.specs.State.{State}
-use Rattle.dz_tree.specs.Root.{System}
+use Rattle.dz_move.specs.Root.{System}
 use Rattle.dz_form.proofs.TextTokens.{both_true}
 use Rattle.dz_syntax.specs.Names.{Declared}
-use Rattle.dz_tree.specs.Walk.{Tree, chains_of, ends_in, ends_of}
+use Rattle.dz_tree.specs.Trees.{Tree}
+use Rattle.dz_check.specs.Walk.{chains_of, ends_in, ends_of}
 use Rattle.dz_cert.specs.LineTexts.{line_text}
 use Rattle.dz_cert.specs.Documents.{ChainTexts, canonical_texts, chain_texts, document_lines, document_of, document_text, ended_lines, head_lines, numbered, section_lines, sections_from}
 use Rattle.dz_cert.proofs.WrittenSteps.{drop_at}

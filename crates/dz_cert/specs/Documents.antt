@@ -3,13 +3,14 @@ use Rattle.std.specs.Prelude.{◌≡◌, ℕ, suc, Bool, true, nat_lt, nat_le, �
 use Rattle.std.specs.Fmt.{decimal}
 use Rattle.std.specs.List.{AllByRecursion, list_all}
 use Rattle.dz_diff.specs.Operations.{Setting}
-use Rattle.dz_tree.specs.Root.{System}
+use Rattle.dz_move.specs.Root.{System}
 use Rattle.dz_diff.specs.State.{State}
 use Rattle.dz_form.specs.Texts.{polynomial_text}
 use Rattle.dz_syntax.specs.Names.{Declared}
 use Rattle.dz_tree.specs.Forms.{IsTree}
-use Rattle.dz_tree.specs.Lines.{Line, is_chain_line}
-use Rattle.dz_tree.specs.Walk.{Tree, chains_of, ends_in, ends_of}
+use Rattle.dz_move.specs.Lines.{Line, is_chain_line}
+use Rattle.dz_tree.specs.Trees.{Tree}
+use Rattle.dz_check.specs.Walk.{chains_of, ends_in, ends_of}
 use Rattle.dz_cert.specs.LineTexts.{IsLineOf, line_text}
 
 -- the texts of a chain's equations, and of its inequations

@@ -6,12 +6,12 @@ use Rattle.dz_rank.specs.declared.symbols.Symbol.{Symbol}
 use Rattle.dz_rank.specs.declared.symbols.Symbol.TheVariants.{Derivative}
 use Rattle.dz_rank.specs.Rankings.{BlockValue}
 use Rattle.dz_diff.specs.Operations.{Setting, setting_of}
-use Rattle.dz_tree.specs.Root.{System}
+use Rattle.dz_move.specs.Root.{System}
 use Rattle.dz_step.specs.declared.Step.{Step}
 use Rattle.dz_step.specs.declared.Which.TheVariants.{Initial, Separant}
 use Rattle.dz_syntax.specs.Names.{Declared}
-use Rattle.dz_tree.specs.Moves.{reduce, split}
-use Rattle.dz_tree.specs.Lines.{Line, act, chain}
+use Rattle.dz_move.specs.Moves.{reduce, split}
+use Rattle.dz_move.specs.Lines.{Line, act, chain}
 use Rattle.dz_cert.specs.Documents.{document_of}
 use Rattle.dz_cert.specs.Reading.{bad_line, bytes_after, document_at, ends_early}
 

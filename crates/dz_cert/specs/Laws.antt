@@ -4,12 +4,13 @@ use Rattle.std.specs.List.{AllByRecursion}
 use Rattle.dz_diff.specs.Operations.{Setting, setting_of}
 use Rattle.dz_rank.specs.Rankings.{RankingValue}
 use Rattle.dz_syntax.specs.Names.{Declared, signature_of}
-use Rattle.dz_tree.specs.Certified.{IsCertified}
-use Rattle.dz_tree.specs.Root.{System}
-use Rattle.dz_tree.specs.Standing.{MayStand}
-use Rattle.dz_tree.specs.Systems.{system_limit}
-use Rattle.dz_tree.specs.Walk.{Tree, all_chains, ends_in, ends_of, rejected, verdict_of}
-use Rattle.dz_tree.specs.declared.Rule.{Rule}
+use Rattle.dz_check.specs.Certified.{IsCertified}
+use Rattle.dz_move.specs.Root.{System}
+use Rattle.dz_move.specs.Standing.{MayStand}
+use Rattle.dz_move.specs.Systems.{system_limit}
+use Rattle.dz_tree.specs.Trees.{Tree}
+use Rattle.dz_check.specs.Walk.{all_chains, ends_in, ends_of, rejected, verdict_of}
+use Rattle.dz_move.specs.declared.Rule.{Rule}
 use Rattle.dz_cert.specs.declared.checking.DocumentVerdict.TheVariants as verdicts
 use Rattle.dz_cert.specs.Documents.{ChainTexts, IsDocument, chain_texts, document_of}
 use Rattle.dz_cert.specs.LineTexts.{IsLineOf}

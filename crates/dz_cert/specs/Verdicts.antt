@@ -4,8 +4,9 @@ use Rattle.std.specs.Prelude.{ℕ, suc, Bool, true, false, ◌&&◌, if◌then�
 use Rattle.std.specs.Str.{bytes_eq}
 use Rattle.dz_diff.specs.Operations.{Setting}
 use Rattle.dz_syntax.specs.Names.{Declared}
-use Rattle.dz_tree.specs.Root.{System}
-use Rattle.dz_tree.specs.Walk.{Tree, Verdict, accepted, partial, rejected, verdict_of}
+use Rattle.dz_move.specs.Root.{System}
+use Rattle.dz_tree.specs.Trees.{Tree}
+use Rattle.dz_check.specs.Walk.{Verdict, accepted, partial, rejected, verdict_of}
 use Rattle.dz_cert.specs.declared.checking.DocumentVerdict.{DocumentVerdict}
 use Rattle.dz_cert.specs.declared.checking.DocumentVerdict.TheVariants as verdicts
 use Rattle.dz_cert.specs.Documents.{ChainTexts, chain_texts}

@@ -13,15 +13,16 @@ ghost use Rattle.dz_diff.specs.States.{LiveAll, StandsIn, polynomials, state_in}
 ghost use Rattle.dz_form.specs.Texts.{polynomial_text};
 ghost use Rattle.dz_poly.specs.Books.{IsKept, Lives, polynomial};
 ghost use Rattle.dz_syntax.specs.Names.{signature_of};
-ghost use Rattle.dz_tree.specs.Certified.{IsCertified};
-ghost use Rattle.dz_tree.specs.Systems.{IsSystemIn, system_in};
+ghost use Rattle.dz_check.specs.Certified.{IsCertified};
+ghost use Rattle.dz_move.specs.Systems.{IsSystemIn, system_in};
 
 use crate::document::{ChainText, Document, Text};
+use dz_check::{Verdict, chains, check};
 use dz_diff::State;
 use dz_form::write_poly;
+use dz_move::{Rule, System};
 use dz_poly::{Book, Poly};
 use dz_syntax::Names;
-use dz_tree::{Rule, System, Verdict, chains, check};
 use std::alloc::{AllocError, Global};
 
 /// What is told of a document.

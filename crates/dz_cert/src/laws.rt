@@ -9,9 +9,9 @@ ghost use Rattle.dz_cert.specs.LineTexts.{IsLineOf, line_text};
 ghost use Rattle.dz_diff.specs.Operations.{Setting};
 ghost use Rattle.dz_syntax.specs.Names.{Declared, IsDeclared};
 ghost use Rattle.dz_tree.specs.Forms.{IsTree, is_spelled};
-ghost use Rattle.dz_tree.specs.Lines.{Line};
-ghost use Rattle.dz_tree.specs.Root.{System};
-ghost use Rattle.dz_tree.specs.Walk.{Tree};
+ghost use Rattle.dz_move.specs.Lines.{Line};
+ghost use Rattle.dz_move.specs.Root.{System};
+ghost use Rattle.dz_tree.specs.Trees.{Tree};
 
 /// A line is read from a text exactly where it is a line of the names with this text.
 pub fn lines_are_read()

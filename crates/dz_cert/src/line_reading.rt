@@ -6,16 +6,16 @@ ghost use Rattle.dz_cert.specs.LineReading.{done_by, factor_at, large_at, line_a
 ghost use Rattle.dz_cert.specs.LineReading.{next_by, open_by, pair_at, run_at, spent_by, split_at};
 ghost use Rattle.dz_cert.specs.LineReading.{wide_by};
 ghost use Rattle.dz_cert.specs.Stops.{Gives};
-ghost use Rattle.dz_tree.specs.TreeLines.{action_of, line_of};
+ghost use Rattle.dz_move.specs.TreeLines.{action_of, line_of};
 
 use crate::parts::{limit, place, steps, which, words_of};
 use crate::stops::LineStop;
 use crate::words::{Word, word_of};
 use dz_form::read_symbol;
+use dz_move::{Line, Next};
 use dz_rank::Symbol;
 use dz_step::{StepList, Which};
 use dz_syntax::Names;
-use dz_tree::{Line, Next};
 use std::alloc::Global;
 
 /// Two places, and a run from the Delta-polynomial of the equations there.

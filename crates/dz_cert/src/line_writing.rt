@@ -10,15 +10,15 @@ ghost use Rattle.dz_rank.specs.Symbols.{BelongsTo, IsOperatorOf};
 ghost use Rattle.dz_step.specs.StepOperators.{DeriveAlong};
 ghost use Rattle.dz_syntax.specs.Names.{signature_of};
 ghost use Rattle.dz_tree.specs.Forms.{is_spelled, is_spelled_action};
-ghost use Rattle.dz_tree.specs.TreeLines.{action_of, line_of};
-ghost use Rattle.dz_tree.specs.declared.lines.Line.TheVariants.{Wide};
+ghost use Rattle.dz_move.specs.TreeLines.{action_of, line_of};
+ghost use Rattle.dz_move.specs.declared.lines.Line.TheVariants.{Wide};
 
 use crate::parts::which_word;
 use dz_form::{limit_word, write_operator, write_symbol};
+use dz_move::{Line, Next};
 use dz_rank::Symbol;
 use dz_step::{Step, StepList, Which};
 use dz_syntax::Names;
-use dz_tree::{Line, Next};
 use itoa::Buffer;
 use std::alloc::AllocError;
 

@@ -12,17 +12,18 @@ ghost use Rattle.dz_cert.specs.Reading.{member_taken, members_taken, section_tak
 ghost use Rattle.dz_cert.specs.Reading.{unread, with_equation, with_inequation, with_last};
 ghost use Rattle.dz_cert.specs.Stops.{Gives};
 ghost use Rattle.dz_tree.specs.Forms.{IsTree};
-ghost use Rattle.dz_tree.specs.Lines.{is_chain_line};
-ghost use Rattle.dz_tree.specs.TreeLines.{line_of};
-ghost use Rattle.dz_tree.specs.Walk.{Tree};
+ghost use Rattle.dz_move.specs.Lines.{is_chain_line};
+ghost use Rattle.dz_move.specs.TreeLines.{line_of};
+ghost use Rattle.dz_tree.specs.Trees.{Tree};
 
 use crate::document::{ChainText, Document, Text};
 use crate::line_reading::read_line;
 use crate::parts::{number, split_once};
 use crate::reader::{Reader, Stage};
 use crate::stops::LineStop;
+use dz_move::Line;
 use dz_syntax::Names;
-use dz_tree::{Expected, Line, Tree, expected_after, left_after, may_stand};
+use dz_tree::{Expected, Tree, expected_after, left_after, may_stand};
 use itoa::Buffer;
 use std::alloc::Global;
 

@@ -12,17 +12,19 @@ ghost use Rattle.dz_diff.specs.States.{LiveAll, StandsIn, polynomials, state_in}
 ghost use Rattle.dz_form.specs.Texts.{polynomial_text};
 ghost use Rattle.dz_poly.specs.Books.{IsKept, Lives, polynomial};
 ghost use Rattle.dz_syntax.specs.Names.{signature_of};
-ghost use Rattle.dz_tree.specs.Certified.{IsCertified};
+ghost use Rattle.dz_check.specs.Certified.{IsCertified};
 ghost use Rattle.dz_tree.specs.Forms.{is_spelled};
-ghost use Rattle.dz_tree.specs.Systems.{IsSystemIn, system_in};
-ghost use Rattle.dz_tree.specs.TreeLines.{line_of};
+ghost use Rattle.dz_move.specs.Systems.{IsSystemIn, system_in};
+ghost use Rattle.dz_move.specs.TreeLines.{line_of};
 
 use crate::line_writing::push_line;
+use dz_check::chains;
 use dz_diff::State;
 use dz_form::write_poly;
+use dz_move::{Line, System};
 use dz_poly::{Book, Poly};
 use dz_syntax::Names;
-use dz_tree::{Line, System, Tree, chains};
+use dz_tree::Tree;
 use itoa::Buffer;
 use std::alloc::{AllocError, Global};
 

@@ -18,21 +18,21 @@ use Rattle.dz_diff.specs.Lists.{AllOf}
 use Rattle.dz_diff.specs.Tests.{is_member, same}
 use Rattle.dz_diff.specs.Operations.{Setting}
 use Rattle.dz_diff.specs.State.{State, at_place, put_equation, limit_passed}
-use Rattle.dz_tree.specs.Root.{is_closed}
+use Rattle.dz_move.specs.Root.{is_closed}
 use Rattle.dz_diff.proofs.Answers.{both}
 use Rattle.dz_step.specs.declared.Which.{Which}
 use Rattle.dz_step.specs.declared.Which.TheVariants.{Initial, Separant}
 use Rattle.dz_step.specs.Step.{multiplier_answer}
 use Rattle.dz_step.specs.FullRun.{with_derivatives, derivatives_of, or_else}
-use Rattle.dz_tree.specs.declared.Rule.{Rule}
-use Rattle.dz_tree.specs.declared.Rule.TheVariants as rules
-use Rattle.dz_tree.specs.Fault.{Fault, refusal, rule}
+use Rattle.dz_move.specs.declared.Rule.{Rule}
+use Rattle.dz_move.specs.declared.Rule.TheVariants as rules
+use Rattle.dz_move.specs.Fault.{Fault, refusal, rule}
 use Rattle.dz_step.specs.Division.{is_divided, quotient_by}
-use Rattle.dz_tree.specs.Moves.{Action, divide, split, factor, steps_of, Done, within, settled, with_equations, forked, divided_at, split_at, factored, perform}
+use Rattle.dz_move.specs.Moves.{Action, divide, split, factor, steps_of, Done, within, settled, with_equations, forked, divided_at, split_at, factored, perform}
 use Rattle.dz_tree.specs.Chain.{passes}
-use Rattle.dz_tree.specs.Lines.{act, closed, spent, open_separant, Entry}
-use Rattle.dz_tree.specs.Reasons.{limit_number, is_wide, is_large_by, refused_after, separant_refused, reason_holds}
-use Rattle.dz_tree.specs.Walk.{Below, entered}
+use Rattle.dz_move.specs.Lines.{act, closed, spent, open_separant, Entry}
+use Rattle.dz_check.specs.Reasons.{limit_number, is_wide, is_large_by, refused_after, separant_refused, reason_holds}
+use Rattle.dz_check.specs.Walk.{Below, entered}
 use Rattle.dz_engine.specs.Order.{line_alone, open_line, plain, first_place, first_symbol, symbols_of, closed_next, divide_next, factor_next, split_on, split_next}
 use Rattle.dz_engine.specs.Resting.{EntryHolds}
 use Rattle.dz_engine.proofs.WorkedTrees.{plain_holds}

@@ -5,12 +5,12 @@ use Rattle.dz_algebra.specs.Polynomial.{polynomial_one}
 use Rattle.dz_algebra.specs.Size.{support, fits, refusal, operation}
 use Rattle.dz_rank.specs.Rankings.{ranking_cmp}
 use Rattle.dz_terms.specs.Ranked.{symbol_rate}
-use Rattle.dz_tree.specs.Root.{root_of}
+use Rattle.dz_move.specs.Root.{root_of}
 use Rattle.dz_step.specs.FullRun.{full_run}
-use Rattle.dz_tree.specs.Moves.{reduced, weeded, grown, divided_at, split_at, factored}
+use Rattle.dz_move.specs.Moves.{reduced, weeded, grown, divided_at, split_at, factored}
 use Rattle.dz_tree.specs.Chain.{chain_rule, evidence_weight}
-use Rattle.dz_tree.specs.Reasons.{reason_holds}
-use Rattle.dz_tree.specs.Walk.{entered, ends_of}
+use Rattle.dz_check.specs.Reasons.{reason_holds}
+use Rattle.dz_check.specs.Walk.{entered, ends_of}
 use Rattle.dz_engine.specs.Order.{next_entry}
 use Rattle.dz_engine.specs.Examples.{RunExamples, ConicExamples, MoveExamples, PlaceExamples, PairExamples, ModelExamples, MixedExamples}
 

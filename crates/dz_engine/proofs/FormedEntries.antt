@@ -32,19 +32,19 @@ use Rattle.dz_step.specs.StepOperators.{course_steps}
 use Rattle.dz_step.specs.FullRun.{Course, finished, stopped, passed, admits, derivatives_of, full_run, or_else}
 use Rattle.dz_step.specs.Step.{multiplier_answer}
 use Rattle.dz_pair.specs.Pair.{critical_pairs, delta_answer}
-use Rattle.dz_tree.specs.declared.Rule.{Rule}
-use Rattle.dz_tree.specs.declared.Rule.TheVariants as rules
-use Rattle.dz_tree.specs.Chain.{Evidence}
-use Rattle.dz_tree.specs.Fault.{Fault, refusal, rule, fault_of}
+use Rattle.dz_move.specs.declared.Rule.{Rule}
+use Rattle.dz_move.specs.declared.Rule.TheVariants as rules
+use Rattle.dz_move.specs.Fault.{Fault, refusal, rule, fault_of}
 use Rattle.dz_tree.specs.Belonging.{AreStepsOf, IsActionOf, IsLineOf}
 use Rattle.dz_tree.specs.Forms.{is_add, is_place, is_end_with, is_spelled, is_spelled_action, is_spelled_step, is_spelled_symbol, takes_out}
-use Rattle.dz_tree.specs.Lines.{Line, act, closed, pair, spent, spent_pairs, open_wide, open_separant, open_large, Entry, lines_of_entry}
-use Rattle.dz_tree.specs.Moves.{Action, reduce, weed, add, divide, split, factor, Done, within, settled, with_equations, forked, perform, divided_at, factored}
-use Rattle.dz_tree.specs.Reasons.{costs_more, is_empty, is_wide, reason_holds}
-use Rattle.dz_tree.specs.Walk.{Below, ended, entered}
-use Rattle.dz_tree.specs.Standing.{IsStateOver}
-use Rattle.dz_tree.proofs.OverStates.{divisor_belongs, divisor_occurs}
-use Rattle.dz_tree.proofs.KeepableStates.{delta_keepable}
+use Rattle.dz_move.specs.Lines.{Evidence, Line, act, closed, pair, spent, spent_pairs, open_wide, open_separant, open_large, Entry, lines_of_entry}
+use Rattle.dz_move.specs.Moves.{Action, reduce, weed, add, divide, split, factor, Done, within, settled, with_equations, forked, perform, divided_at, factored}
+use Rattle.dz_tree.specs.Forms.{is_empty}
+use Rattle.dz_check.specs.Reasons.{costs_more, is_wide, reason_holds}
+use Rattle.dz_check.specs.Walk.{Below, ended, entered}
+use Rattle.dz_move.specs.Standing.{IsStateOver}
+use Rattle.dz_move.proofs.OverStates.{divisor_belongs, divisor_occurs}
+use Rattle.dz_move.proofs.KeepableStates.{delta_keepable}
 use Rattle.dz_engine.specs.Order.{line_alone, with_evidence, refused_line, open_line, plain, affordable, by_course, first_symbol, symbols_of, closed_next, divide_next, reduce_next, factor_next, split_on, split_next, weed_next, evidence, after_course, delta_at, after_delta, pairs_next, next_entry}
 use Rattle.dz_engine.specs.Resting.{EntryHolds}
 use Rattle.dz_engine.proofs.EasyRules.{IsRefusal, and_is, found, or_else_is}

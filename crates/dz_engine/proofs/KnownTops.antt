@@ -5,8 +5,8 @@ use Rattle.std.proofs.lemmas.List.Elements.{All-nil}
 use Rattle.dz_algebra.specs.Polynomial.{Polynomial}
 use Rattle.dz_poly.specs.Books.{BookValue}
 use Rattle.dz_rank.specs.declared.symbols.Symbol.{Symbol}
-use Rattle.dz_tree.specs.declared.drafts.Reached.{Reached}
-use Rattle.dz_tree.specs.Pending.{PendingValue, cut}
+use Rattle.dz_move.specs.declared.drafts.Reached.{Reached}
+use Rattle.dz_check.specs.Pending.{PendingValue, cut}
 use Rattle.dz_engine.specs.declared.decomposing.Pending.{Pending}
 use Rattle.dz_engine.specs.declared.facts.Facts.{Facts}
 use Rattle.dz_engine.specs.Facts.{AreKnown, IsKnown}

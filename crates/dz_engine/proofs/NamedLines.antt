@@ -24,23 +24,23 @@ use Rattle.dz_step.specs.declared.replaying.RunEnd.{RunEnd}
 use Rattle.dz_step.specs.Run.{run}
 use Rattle.dz_step.proofs.FullRuns.{full_run_is_run}
 use Rattle.dz_diff.specs.Outcome.{◌>>=◌, given, told_as}
-use Rattle.dz_tree.specs.declared.Rule.TheVariants as rules
-use Rattle.dz_tree.specs.Fault.{rule, run_fault}
-use Rattle.dz_tree.specs.KnownEnds.{IsKnownEnd}
+use Rattle.dz_move.specs.declared.Rule.TheVariants as rules
+use Rattle.dz_move.specs.Fault.{rule, run_fault}
+use Rattle.dz_move.specs.KnownEnds.{IsKnownEnd}
 use Rattle.dz_engine.specs.declared.admitting.Members.TheVariants.{Equations, Inequations}
 use Rattle.dz_engine.specs.declared.courses.Coursed.TheVariants as courses
 use Rattle.dz_engine.specs.declared.naming.Named.TheVariants.{Known}
 use Rattle.dz_engine.specs.Finding.{role_in}
-use Rattle.dz_tree.specs.declared.lines.Next.{Next}
-use Rattle.dz_tree.specs.declared.lines.Next.TheVariants as nexts
-use Rattle.dz_tree.specs.declared.drafts.Performed.{Performed}
-use Rattle.dz_tree.specs.Actions.{IsPerformed}
-use Rattle.dz_tree.specs.Fault.{Fault}
-use Rattle.dz_tree.specs.Lines.{Entry, act, open_wide, spent}
-use Rattle.dz_tree.specs.Moves.{Done, perform}
-use Rattle.dz_tree.specs.Parts.{is_act}
-use Rattle.dz_tree.specs.Standing.{IsStateOver}
-use Rattle.dz_tree.specs.TreeLines.{action_of, wide_line}
+use Rattle.dz_move.specs.declared.lines.Next.{Next}
+use Rattle.dz_move.specs.declared.lines.Next.TheVariants as nexts
+use Rattle.dz_move.specs.declared.drafts.Performed.{Performed}
+use Rattle.dz_move.specs.Actions.{IsPerformed}
+use Rattle.dz_move.specs.Fault.{Fault}
+use Rattle.dz_move.specs.Lines.{Entry, act, open_wide, spent}
+use Rattle.dz_move.specs.Moves.{Done, perform}
+use Rattle.dz_move.specs.Parts.{is_act}
+use Rattle.dz_move.specs.Standing.{IsStateOver}
+use Rattle.dz_move.specs.TreeLines.{action_of, wide_line}
 use Rattle.dz_engine.specs.declared.admitting.Members.{Members}
 use Rattle.dz_engine.specs.declared.courses.Coursed.{Coursed}
 use Rattle.dz_engine.specs.declared.naming.Named.{Named}

@@ -5,9 +5,9 @@ use Rattle.dz_diff.specs.Operations.{Setting}
 use Rattle.dz_diff.specs.State.{State}
 use Rattle.dz_step.specs.declared.Which.{Which}
 use Rattle.dz_pair.specs.Pair.{critical_pairs}
-use Rattle.dz_tree.specs.Lines.{Entry, closed}
-use Rattle.dz_tree.specs.Moves.{divide, factor}
-use Rattle.dz_tree.specs.Root.{is_closed}
+use Rattle.dz_move.specs.Lines.{Entry, closed}
+use Rattle.dz_move.specs.Moves.{divide, factor}
+use Rattle.dz_move.specs.Root.{is_closed}
 use Rattle.dz_engine.specs.declared.admitting.Members.TheVariants.{Equations, Inequations}
 use Rattle.dz_engine.specs.declared.rules.Found.{Found}
 use Rattle.dz_engine.specs.declared.rules.Found.TheVariants as found

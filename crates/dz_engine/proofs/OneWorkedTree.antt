@@ -2,11 +2,11 @@
 use Rattle.std.proofs.Common.{◌≡◌, ◌∙◌, ◌≤◌, ℕ, List, ap, subst, None}
 use Rattle.dz_rank.specs.Rankings.{RankingValue}
 use Rattle.dz_diff.specs.Operations.{setting_of}
-use Rattle.dz_tree.specs.Lines.{Line}
-use Rattle.dz_tree.specs.Root.{System}
-use Rattle.dz_tree.specs.Standing.{MayStand}
-use Rattle.dz_tree.specs.Systems.{system_limit}
-use Rattle.dz_tree.specs.Walk.{Tree}
+use Rattle.dz_move.specs.Lines.{Line}
+use Rattle.dz_move.specs.Root.{System}
+use Rattle.dz_move.specs.Standing.{MayStand}
+use Rattle.dz_move.specs.Systems.{system_limit}
+use Rattle.dz_tree.specs.Trees.{Tree}
 use Rattle.dz_engine.specs.Worked.{IsWorked, worked_tree}
 use Rattle.dz_engine.proofs.OrderLaws.{order_laws}
 use Rattle.dz_engine.proofs.WorkedTrees.{worked_laws}

@@ -8,23 +8,23 @@ use Rattle.dz_diff.specs.Operations.{Setting, setting_of}
 use Rattle.dz_diff.specs.Over.{AreOver, IsOver}
 use Rattle.dz_diff.specs.State.{State}
 use Rattle.dz_diff.proofs.Places.{taken}
-use Rattle.dz_tree.specs.Root.{System, is_closed, root_of}
+use Rattle.dz_move.specs.Root.{System, is_closed, root_of}
 use Rattle.dz_terms.specs.Entries.{IsKeepable}
 use Rattle.dz_terms.specs.Ranked.{symbols_under}
-use Rattle.dz_tree.specs.Systems.{system_limit}
+use Rattle.dz_move.specs.Systems.{system_limit}
 use Rattle.dz_pair.specs.Pair.{critical_pairs}
-use Rattle.dz_tree.specs.declared.Rule.{Rule}
-use Rattle.dz_tree.specs.declared.Rule.TheVariants as rules
-use Rattle.dz_tree.specs.Chain.{Evidence, chain_rule, evidence_from}
+use Rattle.dz_move.specs.declared.Rule.{Rule}
+use Rattle.dz_move.specs.declared.Rule.TheVariants as rules
+use Rattle.dz_tree.specs.Chain.{chain_rule, evidence_from}
 use Rattle.dz_tree.specs.Belonging.{IsLineOf}
-use Rattle.dz_tree.specs.Lines.{Line, closed, chain, Entry, entries_of, lines_of}
-use Rattle.dz_tree.specs.Walk.{Below, ended, nothing_below, entered}
+use Rattle.dz_move.specs.Lines.{Evidence, Line, closed, chain, Entry, entries_of, lines_of}
+use Rattle.dz_check.specs.Walk.{Below, ended, nothing_below, entered}
 use Rattle.dz_engine.specs.Order.{line_alone, divide_next, reduce_next, factor_next, split_next, weed_next, pairs_next, first_of, next_entry}
 use Rattle.dz_engine.specs.Worked.{IsWorkedFrom, IsWorked, worked_from, worked_lines}
-use Rattle.dz_tree.specs.Standing.{IsStateOver, MayStand}
+use Rattle.dz_move.specs.Standing.{IsStateOver, MayStand}
 use Rattle.dz_engine.specs.Laws.{OrderLaws}
-use Rattle.dz_tree.proofs.KeepableStates.{keepables_over}
-use Rattle.dz_tree.proofs.StateFacts.{state_laws}
+use Rattle.dz_move.proofs.KeepableStates.{keepables_over}
+use Rattle.dz_move.proofs.StateFacts.{state_laws}
 use Rattle.dz_tree.proofs.TreeEntries.{lines_of_entries}
 use Rattle.dz_engine.proofs.RestingLines.{chain_line}
 use Rattle.dz_tree.proofs.LowRuns.{full_run_coherent}

@@ -11,7 +11,7 @@ use Rattle.dz_terms.proofs.SymbolLaws.{ranking_order}
 use Rattle.dz_diff.specs.Operations.{Setting, setting_of}
 use Rattle.dz_diff.specs.Over.{IsOver}
 use Rattle.dz_diff.specs.State.{State, at_place}
-use Rattle.dz_tree.specs.Root.{is_closed}
+use Rattle.dz_move.specs.Root.{is_closed}
 use Rattle.dz_diff.proofs.Answers.{bind_ok, told_ok, then_ok, ok_same}
 use Rattle.dz_diff.specs.Tests.{Polynomials}
 use Rattle.dz_terms.specs.Entries.{IsKeepable}
@@ -26,27 +26,27 @@ use Rattle.dz_step.specs.declared.Step.{Step}
 use Rattle.dz_step.specs.Laws.{ReductionLaws}
 use Rattle.dz_step.proofs.Falls.{reduction_laws}
 use Rattle.dz_pair.specs.Pair.{critical_pairs, delta_answer}
-use Rattle.dz_tree.specs.declared.Rule.{Rule}
-use Rattle.dz_tree.specs.declared.Rule.TheVariants as rules
-use Rattle.dz_tree.specs.Moves.{Action, is_fork, Done, perform}
-use Rattle.dz_tree.specs.Chain.{Evidence, chain_rule, evidence_weight, evidence_from, chain_weight}
-use Rattle.dz_tree.specs.Lines.{Line, act, closed, chain, pair, spent, spent_pairs, open_wide, open_separant, open_large, Entry, with_line, grouped, lines_of}
-use Rattle.dz_tree.specs.Reasons.{reason_holds}
-use Rattle.dz_tree.specs.Walk.{Below, ended, nothing_below, told_at_line, entered}
-use Rattle.dz_tree.proofs.Progress.{perform_leads}
+use Rattle.dz_move.specs.declared.Rule.{Rule}
+use Rattle.dz_move.specs.declared.Rule.TheVariants as rules
+use Rattle.dz_move.specs.Moves.{Action, is_fork, Done, perform}
+use Rattle.dz_tree.specs.Chain.{chain_rule, evidence_weight, evidence_from, chain_weight}
+use Rattle.dz_move.specs.Lines.{Evidence, Line, act, closed, chain, pair, spent, spent_pairs, open_wide, open_separant, open_large, Entry, with_line, grouped, lines_of}
+use Rattle.dz_check.specs.Reasons.{reason_holds}
+use Rattle.dz_check.specs.Walk.{Below, ended, nothing_below, told_at_line, entered}
+use Rattle.dz_move.proofs.Progress.{perform_leads}
 use Rattle.dz_engine.specs.Order.{line_alone, closed_next, divide_next, reduce_next, factor_next, split_next, weed_next, pairs_next, first_of, next_entry}
 use Rattle.dz_engine.specs.Worked.{IsWorkedFrom, worked_from}
-use Rattle.dz_tree.specs.Standing.{IsStateOver, MayStand}
+use Rattle.dz_move.specs.Standing.{IsStateOver, MayStand}
 use Rattle.dz_engine.specs.Resting.{EntryHolds}
 use Rattle.dz_engine.proofs.WorkedTrees.{Goes, worked_is_there}
 use Rattle.dz_engine.proofs.EasyRules.{SeparantsAreWide, closed_goes, divide_goes, factor_goes, split_goes}
 use Rattle.dz_diff.proofs.OverOperations.{norm_over}
 use Rattle.dz_step.proofs.OverSteps.{step_over, next_fits}
 use Rattle.dz_pair.proofs.OverDeltas.{delta_over}
-use Rattle.dz_tree.proofs.KeepableStates.{keepables_over}
+use Rattle.dz_move.proofs.KeepableStates.{keepables_over}
 use Rattle.dz_tree.proofs.LowRuns.{coherent}
 use Rattle.dz_tree.proofs.TreeEntries.{evidence_grouped}
-use Rattle.dz_tree.proofs.StateFacts.{state_laws}
+use Rattle.dz_move.proofs.StateFacts.{state_laws}
 use Rattle.dz_engine.proofs.RestingChains.{is_chain}
 use Rattle.dz_engine.proofs.RestingPlaces.{chain_admits}
 use Rattle.dz_engine.proofs.SmallSeparants.{separant_is_wide}

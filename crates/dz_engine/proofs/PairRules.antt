@@ -22,16 +22,18 @@ use Rattle.dz_step.specs.Run.{Ran, run}
 use Rattle.dz_step.specs.FullRun.{Course, finished, stopped, passed, full_run, next_step, admits}
 use Rattle.dz_step.proofs.FullRuns.{full_run_is_run, full_run_low}
 use Rattle.dz_pair.specs.Pair.{is_pair, common, delta_answer, pairs_with, pairs_from, critical_pairs}
-use Rattle.dz_tree.specs.declared.Rule.{Rule}
-use Rattle.dz_tree.specs.declared.Rule.TheVariants as rules
-use Rattle.dz_tree.specs.Fault.{Fault, refusal, rule, fault_of, rule_of, rule_of_refusal, run_fault}
-use Rattle.dz_tree.specs.Moves.{add, Done, within, settled, with_equations, grown, perform}
-use Rattle.dz_tree.specs.Chain.{Evidence, chain_rule, passes, is_below, evidence_weight, evidence_from}
-use Rattle.dz_tree.specs.Lines.{act, chain, spent_pairs, Entry}
-use Rattle.dz_tree.specs.Reasons.{open_weight, open_weights, weighs_more, is_increasing, is_empty, reason_holds}
-use Rattle.dz_tree.specs.Walk.{Below, ended, told_at_line, entered}
+use Rattle.dz_move.specs.declared.Rule.{Rule}
+use Rattle.dz_move.specs.declared.Rule.TheVariants as rules
+use Rattle.dz_move.specs.Fault.{Fault, refusal, rule, fault_of, rule_of, rule_of_refusal, run_fault}
+use Rattle.dz_move.specs.Moves.{add, Done, within, settled, with_equations, grown, perform}
+use Rattle.dz_tree.specs.Chain.{chain_rule, passes, is_below, evidence_weight, evidence_from}
+use Rattle.dz_move.specs.Lines.{Evidence, act, chain, spent_pairs, Entry}
+use Rattle.dz_move.specs.PairRuns.{open_weight}
+use Rattle.dz_tree.specs.Forms.{is_empty}
+use Rattle.dz_check.specs.Reasons.{open_weights, weighs_more, is_increasing, reason_holds}
+use Rattle.dz_check.specs.Walk.{Below, ended, told_at_line, entered}
 use Rattle.dz_tree.proofs.CriticalPairs.{NamesPair, critical_pairs_name}
-use Rattle.dz_tree.proofs.KeptMembers.{all_give}
+use Rattle.dz_move.proofs.KeptMembers.{all_give}
 use Rattle.dz_engine.specs.Order.{line_alone, open_line, affordable, with_evidence, evidence, after_course, delta_at, after_delta, pairs_next}
 use Rattle.dz_engine.specs.Resting.{EntryHolds}
 use Rattle.dz_engine.proofs.EasyRules.{and_is, needs_is, given_is, holds_needs, open_holds}

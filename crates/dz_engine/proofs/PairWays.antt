@@ -23,19 +23,18 @@ use Rattle.dz_step.specs.Step.{Stop}
 use Rattle.dz_step.proofs.FullRuns.{full_run_low}
 use Rattle.dz_step.proofs.FullRuns.{full_run_is_run}
 use Rattle.dz_pair.specs.Pair.{critical_pairs, delta_answer}
-use Rattle.dz_tree.specs.declared.Rule.{Rule}
-use Rattle.dz_tree.specs.declared.lines.Line.{Line as ProgramLine}
-use Rattle.dz_tree.specs.declared.lines.Line.TheVariants as lines
-use Rattle.dz_tree.specs.Chain.{Evidence}
-use Rattle.dz_tree.specs.Fault.{Fault, refusal, run_fault}
-use Rattle.dz_tree.specs.Lines.{Entry, act, chain, pair, spent, spent_pairs}
-use Rattle.dz_tree.specs.Moves.{Action, Done, add, perform}
-use Rattle.dz_tree.specs.Parts.{placed_pair_run}
-use Rattle.dz_tree.specs.TreeLines.{line_of}
-use Rattle.dz_tree.specs.Walk.{Below, entered, told_at_line}
-use Rattle.dz_tree.specs.declared.pair_runs.ActionEnd.{ActionEnd}
+use Rattle.dz_move.specs.declared.Rule.{Rule}
+use Rattle.dz_move.specs.declared.lines.Line.{Line as ProgramLine}
+use Rattle.dz_move.specs.declared.lines.Line.TheVariants as lines
+use Rattle.dz_move.specs.Fault.{Fault, refusal, run_fault}
+use Rattle.dz_move.specs.Lines.{Evidence, Entry, act, chain, pair, spent, spent_pairs}
+use Rattle.dz_move.specs.Moves.{Action, Done, add, perform}
+use Rattle.dz_move.specs.Parts.{placed_pair_run}
+use Rattle.dz_move.specs.TreeLines.{line_of}
+use Rattle.dz_check.specs.Walk.{Below, entered, told_at_line}
+use Rattle.dz_move.specs.declared.pair_runs.ActionEnd.{ActionEnd}
 use Rattle.dz_tree.proofs.CriticalPairs.{NamesPair, critical_pairs_name}
-use Rattle.dz_tree.proofs.Outcomes.{pair_ran}
+use Rattle.dz_move.proofs.Outcomes.{pair_ran}
 use Rattle.dz_engine.specs.declared.naming.Named.{Named}
 use Rattle.dz_engine.specs.declared.pairing.PairCourse.{PairCourse}
 use Rattle.dz_engine.specs.declared.pairing.PairCourse.TheVariants as pairings

@@ -33,7 +33,7 @@ use Rattle.dz_diff.proofs.LeaderDerivations.{IsRegular}
 use Rattle.dz_diff.proofs.OperatorLeaders.{derivative_grows}
 use Rattle.dz_diff.proofs.Overs.{regular_over}
 use Rattle.dz_diff.proofs.Places.{taken}
-use Rattle.dz_tree.proofs.RootStates.{or_none}
+use Rattle.dz_move.proofs.RootStates.{or_none}
 use Rattle.dz_diff.proofs.SameTests.{equal_is, same_is}
 use Rattle.dz_diff.proofs.LeaderBounds.{most_degree}
 use Rattle.dz_step.specs.declared.Role.TheVariants.{Equation, Inequation}
@@ -44,15 +44,16 @@ use Rattle.dz_step.proofs.NextSteps.{derivative_quotient}
 use Rattle.dz_step.proofs.NoSteps.{no_step_at}
 use Rattle.dz_step.proofs.StepsLower.{zero_above}
 use Rattle.dz_pair.specs.Pair.{critical_pairs}
-use Rattle.dz_tree.specs.declared.Rule.TheVariants as rules
-use Rattle.dz_tree.specs.Chain.{Evidence, passes, has_leaders, is_reducible, reducible_by, autoreduced_from, is_autoreduced, separant_fits, has_permitted, is_free_of, is_reduced, same_pairs, chain_rule}
+use Rattle.dz_move.specs.declared.Rule.TheVariants as rules
+use Rattle.dz_move.specs.Lines.{Evidence}
+use Rattle.dz_tree.specs.Chain.{passes, has_leaders, is_reducible, reducible_by, autoreduced_from, is_autoreduced, separant_fits, has_permitted, is_free_of, is_reduced, same_pairs, chain_rule}
 use Rattle.dz_engine.specs.Order.{weed_next}
 use Rattle.dz_engine.proofs.EasyRules.{and_is, in_derivatives, needs_is, none_at}
 use Rattle.dz_engine.proofs.RestingMultipliers.{Rests, divides_no_other, leads, multiplier_degree, none_there, norm_degree, over_at, permits, rests_at, separant_there, unnamed}
 use Rattle.dz_engine.proofs.PairRules.{or_right, places_of}
 use Rattle.dz_engine.proofs.RestingPlaces.{passing}
 use Rattle.dz_engine.proofs.RunRules.{is_not}
-use Rattle.dz_tree.proofs.StateFacts.{zeros_none}
+use Rattle.dz_move.proofs.StateFacts.{zeros_none}
 
 -- ---- tests of lists
 -- what is not true is false

@@ -26,7 +26,7 @@ use Rattle.dz_diff.specs.States.{IsStateOf}
 use Rattle.dz_diff.specs.Tests.{Polynomials, is_member, is_unit, is_zero, same}
 use Rattle.dz_diff.proofs.Answers.{both, is_false, then_ok}
 use Rattle.dz_diff.proofs.Places.{taken}
-use Rattle.dz_tree.proofs.RootStates.{or_none}
+use Rattle.dz_move.proofs.RootStates.{or_none}
 use Rattle.dz_diff.proofs.SameTests.{same_itself}
 use Rattle.dz_step.specs.declared.Role.TheVariants.{Equation, Inequation}
 use Rattle.dz_step.specs.declared.Step.{Step}
@@ -39,16 +39,16 @@ use Rattle.dz_step.proofs.NextSteps.{found_first}
 use Rattle.dz_step.proofs.NoSteps.{no_step_at}
 use Rattle.dz_pair.specs.Pair.{critical_pairs}
 use Rattle.dz_tree.specs.Chain.{passes, has_leaders, is_reducible, reducible_by, autoreduced_from, is_autoreduced, separant_fits, has_permitted, is_reduced, same_pairs, chain_rule}
-use Rattle.dz_tree.specs.Lines.{chain, closed, Entry}
-use Rattle.dz_tree.specs.Moves.{divide, factor}
+use Rattle.dz_move.specs.Lines.{chain, closed, Entry}
+use Rattle.dz_move.specs.Moves.{divide, factor}
 use Rattle.dz_engine.specs.Order.{line_alone, plain, first_place, first_symbol, symbols_of, closed_next, divide_next, reduce_next, factor_next, split_on, split_next, weed_next, pairs_next, first_of, next_entry}
 use Rattle.dz_engine.specs.Resting.{IsAtRest}
 use Rattle.dz_engine.proofs.EasyRules.{and_is, are_derivatives}
-use Rattle.dz_tree.proofs.KeptMembers.{all_give}
+use Rattle.dz_move.proofs.KeptMembers.{all_give}
 use Rattle.dz_engine.proofs.PairRules.{or_right}
 use Rattle.dz_engine.proofs.RestingMultipliers.{member_at, none_there}
 use Rattle.dz_engine.proofs.RestingPlaces.{all_pass, quotient_by_itself}
-use Rattle.dz_tree.proofs.StateFacts.{units_none}
+use Rattle.dz_move.proofs.StateFacts.{units_none}
 
 -- ---- nothing is named
 -- at no place

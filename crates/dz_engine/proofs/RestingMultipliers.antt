@@ -24,7 +24,7 @@ use Rattle.dz_terms.proofs.SymbolLaws.{ranking_order}
 use Rattle.dz_diff.specs.Lists.{AllOf}
 use Rattle.dz_diff.specs.Operations.{setting_of}
 use Rattle.dz_diff.specs.Over.{IsOver}
-use Rattle.dz_tree.specs.Root.{is_closed}
+use Rattle.dz_move.specs.Root.{is_closed}
 use Rattle.dz_diff.specs.Tests.{Polynomials, has_unit, has_zero, is_member, is_unit, is_zero, same}
 use Rattle.dz_diff.specs.State.{State, at_place}
 use Rattle.dz_diff.proofs.Answers.{either}
@@ -34,7 +34,7 @@ use Rattle.dz_diff.proofs.LeaderDerivations.{IsUnder}
 use Rattle.dz_diff.proofs.MarkedSums.{each_collect}
 use Rattle.dz_diff.proofs.Overs.{polynomial_in, regular_over}
 use Rattle.dz_diff.proofs.Places.{taken}
-use Rattle.dz_tree.proofs.RootStates.{or_none}
+use Rattle.dz_move.proofs.RootStates.{or_none}
 use Rattle.dz_diff.proofs.SameTests.{same_is}
 use Rattle.dz_diff.proofs.Separants.{IsNotAbove, separant_nonzero}
 use Rattle.dz_step.specs.declared.Role.TheVariants.{Equation}
@@ -44,12 +44,12 @@ use Rattle.dz_step.specs.FullRun.{or_else, next_step, admits}
 use Rattle.dz_step.specs.Step.{is_allowed, multiplier_answer, permitted_if}
 use Rattle.dz_step.proofs.Lowering.{each_coefficient}
 use Rattle.dz_step.proofs.NoSteps.{no_step_at}
-use Rattle.dz_tree.specs.Lines.{Entry}
+use Rattle.dz_move.specs.Lines.{Entry}
 use Rattle.dz_engine.specs.Order.{reduce_next, split_next, split_on}
 use Rattle.dz_engine.proofs.EasyRules.{and_is, none_at, none_parts}
 use Rattle.dz_engine.proofs.RestingPlaces.{quotient_by_itself}
 use Rattle.dz_engine.proofs.SmallSeparants.{derivative_lower, derivative_most}
-use Rattle.dz_tree.proofs.StateFacts.{units_none, zeros_none}
+use Rattle.dz_move.proofs.StateFacts.{units_none, zeros_none}
 
 -- ---- what is named
 -- nothing is named where the test fails

@@ -30,10 +30,10 @@ use Rattle.dz_step.proofs.CourseSteps.{full_run_has}
 use Rattle.dz_step.proofs.NextSteps.{found_first, in_derivatives}
 use Rattle.dz_tree.specs.Belonging.{AreStepsOf, IsStepOf}
 use Rattle.dz_tree.specs.Forms.{is_place, is_spelled_operator, is_spelled_symbol, is_spelled_step}
-use Rattle.dz_tree.specs.Reasons.{is_empty}
-use Rattle.dz_tree.proofs.KeepableStates.{keepables_over, norm_keepable, step_keepable}
+use Rattle.dz_tree.specs.Forms.{is_empty}
+use Rattle.dz_move.proofs.KeepableStates.{keepables_over, norm_keepable, step_keepable}
 use Rattle.dz_step.proofs.OverSteps.{next_fits}
-use Rattle.dz_tree.proofs.RootStates.{or_none}
+use Rattle.dz_move.proofs.RootStates.{or_none}
 use Rattle.dz_engine.proofs.EasyRules.{and_is}
 
 -- a full run after some steps has some

@@ -20,19 +20,19 @@ use Rattle.dz_step.specs.Run.{run}
 use Rattle.dz_pair.specs.Pair.{common, delta_answer}
 use Rattle.dz_algebra.specs.Size.{Refusal}
 use Rattle.std.specs.List.{list_all}
-use Rattle.dz_tree.specs.declared.Rule.{Rule}
-use Rattle.dz_tree.specs.declared.lines.Line.{Line as ProgramLine}
-use Rattle.dz_tree.specs.Chain.{Evidence, chain_rule, evidence_from, evidence_weight, is_below, passes}
-use Rattle.dz_tree.specs.Fault.{rule_of, rule_of_refusal, run_fault}
-use Rattle.dz_tree.specs.Lines.{Entry, Line, act, chain, closed, lines_of, lines_of_entry, open_large, open_separant, open_wide, pair, spent, spent_pairs}
-use Rattle.dz_tree.specs.Pending.{StackedIn, cut, pending_states}
-use Rattle.dz_tree.specs.Standing.{IsStateOver}
-use Rattle.dz_tree.specs.TreeLines.{line_of}
-use Rattle.dz_tree.specs.Walk.{Below, entered}
-use Rattle.dz_tree.proofs.Certifying.{entered_holds}
-use Rattle.dz_tree.proofs.KeptMembers.{all_give}
-use Rattle.dz_tree.proofs.PendingStacks.{pushed, pushed_states, stack_grows, stack_kept, states_stay}
-use Rattle.dz_tree.proofs.StateFacts.{state_laws}
+use Rattle.dz_move.specs.declared.Rule.{Rule}
+use Rattle.dz_move.specs.declared.lines.Line.{Line as ProgramLine}
+use Rattle.dz_tree.specs.Chain.{chain_rule, evidence_from, evidence_weight, is_below, passes}
+use Rattle.dz_move.specs.Fault.{rule_of, rule_of_refusal, run_fault}
+use Rattle.dz_move.specs.Lines.{Evidence, Entry, Line, act, chain, closed, lines_of, lines_of_entry, open_large, open_separant, open_wide, pair, spent, spent_pairs}
+use Rattle.dz_check.specs.Pending.{StackedIn, cut, pending_states}
+use Rattle.dz_move.specs.Standing.{IsStateOver}
+use Rattle.dz_move.specs.TreeLines.{line_of}
+use Rattle.dz_check.specs.Walk.{Below, entered}
+use Rattle.dz_check.proofs.Certifying.{entered_holds}
+use Rattle.dz_move.proofs.KeptMembers.{all_give}
+use Rattle.dz_check.proofs.PendingStacks.{pushed, pushed_states, stack_grows, stack_kept, states_stay}
+use Rattle.dz_move.proofs.StateFacts.{state_laws}
 use Rattle.dz_engine.specs.declared.decomposing.Pending.{Pending}
 use Rattle.dz_engine.specs.declared.decomposing.Progress.{Progress}
 use Rattle.dz_engine.specs.declared.working.Worked.{Worked}

@@ -9,17 +9,16 @@ use Rattle.dz_diff.specs.Lists.{AllOf}
 use Rattle.dz_diff.specs.Operations.{Setting, setting_of}
 use Rattle.dz_diff.specs.State.{State}
 use Rattle.dz_diff.proofs.Places.{all-append}
-use Rattle.dz_tree.specs.declared.Rule.{Rule}
+use Rattle.dz_move.specs.declared.Rule.{Rule}
 use Rattle.dz_tree.specs.Belonging.{IsLineOf}
-use Rattle.dz_tree.specs.Chain.{Evidence}
 use Rattle.dz_tree.specs.Forms.{Node, end, move, fork, lines_in, is_end_with, is_spelled, IsOrdered, FormTree}
-use Rattle.dz_tree.specs.Lines.{Line, act, closed, chain, pair, spent, spent_pairs, open_wide, open_separant, open_large, Entry, lines_of, lines_of_entry}
-use Rattle.dz_tree.specs.Moves.{Action, is_fork}
-use Rattle.dz_tree.specs.Walk.{Below, entered}
-use Rattle.dz_tree.specs.Standing.{IsStateOver}
-use Rattle.dz_tree.proofs.StateFacts.{state_laws}
-use Rattle.dz_tree.proofs.Certifying.{entered_holds}
-use Rattle.dz_tree.proofs.Progress.{perform_leads}
+use Rattle.dz_move.specs.Lines.{Evidence, Line, act, closed, chain, pair, spent, spent_pairs, open_wide, open_separant, open_large, Entry, lines_of, lines_of_entry}
+use Rattle.dz_move.specs.Moves.{Action, is_fork}
+use Rattle.dz_check.specs.Walk.{Below, entered}
+use Rattle.dz_move.specs.Standing.{IsStateOver}
+use Rattle.dz_move.proofs.StateFacts.{state_laws}
+use Rattle.dz_check.proofs.Certifying.{entered_holds}
+use Rattle.dz_move.proofs.Progress.{perform_leads}
 use Rattle.dz_tree.proofs.TreeForms.{lines_of_all, none_is_empty}
 use Rattle.dz_engine.specs.Worked.{IsWorkedFrom}
 use Rattle.dz_engine.proofs.FormedEntries.{IsFormed, is_placed, next_formed}

@@ -7,13 +7,13 @@ use Rattle.dz_poly.specs.Books.{BookValue, IsBook, IsKept}
 use Rattle.dz_diff.specs.Operations.{setting_of}
 use Rattle.dz_diff.specs.State.{State}
 use Rattle.dz_diff.specs.States.{IsStateOf, StandsIn, StateValue, state_in}
-use Rattle.dz_tree.specs.declared.lines.Line.{Line as ProgramLine}
+use Rattle.dz_move.specs.declared.lines.Line.{Line as ProgramLine}
 use Rattle.dz_tree.specs.Belonging.{IsLineOf}
-use Rattle.dz_tree.specs.Chain.{Evidence}
 use Rattle.dz_tree.specs.Forms.{FormTree, IsTree}
-use Rattle.dz_tree.specs.Lines.{Line, Entry, entries_of}
-use Rattle.dz_tree.specs.Root.{System, root_of}
-use Rattle.dz_tree.specs.TreeLines.{line_of, tree_of}
+use Rattle.dz_move.specs.Lines.{Evidence, Line, Entry, entries_of}
+use Rattle.dz_move.specs.Root.{System, root_of}
+use Rattle.dz_move.specs.TreeLines.{line_of}
+use Rattle.dz_tree.specs.Trees.{tree_of}
 use Rattle.dz_engine.specs.Turning.{AreWorkedLines}
 use Rattle.dz_engine.specs.Worked.{IsWorked, IsWorkedFrom}
 use Rattle.dz_engine.proofs.NamedLines.{state_over}

@@ -6,19 +6,20 @@ use Rattle.dz_diff.specs.Outcome.{◌>>=◌, needs, told_as}
 use Rattle.dz_diff.specs.Lists.{AllOf}
 use Rattle.dz_diff.specs.Operations.{Setting}
 use Rattle.dz_diff.specs.State.{State}
-use Rattle.dz_tree.specs.Root.{System, root_of}
+use Rattle.dz_move.specs.Root.{System, root_of}
 use Rattle.dz_diff.proofs.Places.{all-append}
-use Rattle.dz_tree.specs.declared.Rule.{Rule}
-use Rattle.dz_tree.specs.declared.Rule.TheVariants as rules
-use Rattle.dz_tree.specs.Fault.{Fault}
-use Rattle.dz_tree.specs.Moves.{Action, Done, perform}
-use Rattle.dz_tree.specs.Certified.{IsCertified}
+use Rattle.dz_move.specs.declared.Rule.{Rule}
+use Rattle.dz_move.specs.declared.Rule.TheVariants as rules
+use Rattle.dz_move.specs.Fault.{Fault}
+use Rattle.dz_move.specs.Moves.{Action, Done, perform}
+use Rattle.dz_check.specs.Certified.{IsCertified}
 use Rattle.dz_tree.specs.Forms.{FormTree}
-use Rattle.dz_tree.specs.Lines.{Line, act, spent, Entry, entries_of, lines_of}
-use Rattle.dz_tree.proofs.Certifying.{certified_is}
+use Rattle.dz_move.specs.Lines.{Line, act, spent, Entry, entries_of, lines_of}
+use Rattle.dz_check.proofs.Certifying.{certified_is}
 use Rattle.dz_tree.proofs.TreeEntries.{lines_of_entries}
-use Rattle.dz_tree.specs.Reasons.{costs_more, reason_holds}
-use Rattle.dz_tree.specs.Walk.{Tree, End, Below, ended, told_at_line, entered, walk, ends_of}
+use Rattle.dz_check.specs.Reasons.{costs_more, reason_holds}
+use Rattle.dz_tree.specs.Trees.{Tree}
+use Rattle.dz_check.specs.Walk.{End, Below, ended, told_at_line, entered, walk, ends_of}
 use Rattle.dz_engine.specs.Order.{plain, open_line, next_entry}
 use Rattle.dz_engine.specs.Worked.{IsWorkedFrom, IsWorked, worked_from}
 use Rattle.dz_engine.specs.Laws.{WorkedLaws}

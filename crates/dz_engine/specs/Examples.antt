@@ -10,7 +10,7 @@ use Rattle.dz_rank.specs.declared.symbols.Symbol.TheVariants.{Independent, Deriv
 use Rattle.dz_rank.specs.Rankings.{BlockValue}
 use Rattle.dz_diff.specs.Operations.{Setting, setting_of}
 use Rattle.dz_diff.specs.State.{State}
-use Rattle.dz_tree.specs.Root.{System, root_of}
+use Rattle.dz_move.specs.Root.{System, root_of}
 use Rattle.dz_diff.specs.Tests.{Polynomials}
 use Rattle.dz_step.specs.declared.Step.{Step}
 use Rattle.dz_step.specs.declared.Which.TheVariants.{Initial, Separant}
@@ -19,10 +19,10 @@ use Rattle.dz_step.specs.Step.{no_step}
 use Rattle.dz_step.specs.Run.{run}
 use Rattle.dz_step.specs.FullRun.{finished, passed, full_run}
 use Rattle.dz_pair.specs.Pair.{delta_answer, critical_pairs}
-use Rattle.dz_tree.specs.declared.Rule.TheVariants as rules
-use Rattle.dz_tree.specs.Moves.{reduce, weed, add, divide, split, factor}
-use Rattle.dz_tree.specs.Lines.{Line, act, closed, chain, pair, spent, spent_pairs, open_wide}
-use Rattle.dz_tree.specs.Walk.{Verdict, accepted, partial, rejected, verdict_of, chains_of, ends_in, ends_of}
+use Rattle.dz_move.specs.declared.Rule.TheVariants as rules
+use Rattle.dz_move.specs.Moves.{reduce, weed, add, divide, split, factor}
+use Rattle.dz_move.specs.Lines.{Line, act, closed, chain, pair, spent, spent_pairs, open_wide}
+use Rattle.dz_check.specs.Walk.{Verdict, accepted, partial, rejected, verdict_of, chains_of, ends_in, ends_of}
 use Rattle.dz_engine.specs.Worked.{worked_lines}
 
 -- ---- symbols and settings

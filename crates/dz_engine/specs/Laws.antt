@@ -13,14 +13,14 @@ use Rattle.dz_step.specs.StepOperators.{course_steps}
 use Rattle.dz_step.specs.declared.Role.TheVariants.{Free}
 use Rattle.dz_pair.specs.Pair.{common, delta_answer, is_pair}
 use Rattle.dz_tree.specs.Chain.{is_below, passes}
-use Rattle.dz_tree.specs.Root.{System, is_closed, root_of}
+use Rattle.dz_move.specs.Root.{System, is_closed, root_of}
 use Rattle.dz_diff.specs.State.{State, at_place}
-use Rattle.dz_tree.specs.Systems.{system_limit}
-use Rattle.dz_tree.specs.Standing.{IsStateOver, MayStand}
+use Rattle.dz_move.specs.Systems.{system_limit}
+use Rattle.dz_move.specs.Standing.{IsStateOver, MayStand}
 use Rattle.dz_tree.specs.Belonging.{IsLineOf}
-use Rattle.dz_tree.specs.Lines.{Line, closed, chain}
-use Rattle.dz_tree.specs.Walk.{Tree}
-use Rattle.dz_tree.specs.Certified.{IsCertified}
+use Rattle.dz_move.specs.Lines.{Line, closed, chain}
+use Rattle.dz_tree.specs.Trees.{Tree}
+use Rattle.dz_check.specs.Certified.{IsCertified}
 use Rattle.dz_engine.specs.Order.{line_alone, next_entry}
 use Rattle.dz_engine.specs.Worked.{IsWorked, worked_lines}
 use Rattle.dz_engine.specs.Resting.{EntryHolds, IsAtRest}

@@ -9,7 +9,7 @@ use Rattle.dz_rank.specs.declared.symbols.Symbol.{Symbol}
 use Rattle.dz_diff.specs.Tests.{is_zero, is_member, same}
 use Rattle.dz_diff.specs.Operations.{Setting}
 use Rattle.dz_diff.specs.State.{State, at_place}
-use Rattle.dz_tree.specs.Root.{is_closed}
+use Rattle.dz_move.specs.Root.{is_closed}
 use Rattle.dz_step.specs.declared.Which.{Which}
 use Rattle.dz_step.specs.declared.Which.TheVariants.{Initial, Separant}
 use Rattle.dz_step.specs.declared.Role.TheVariants.{Free, Equation, Inequation}
@@ -17,11 +17,10 @@ use Rattle.dz_step.specs.declared.Step.{Step}
 use Rattle.dz_step.specs.Step.{multiplier_answer}
 use Rattle.dz_step.specs.FullRun.{derivatives_of, or_else, admits, Course, finished, stopped, passed, full_run}
 use Rattle.dz_pair.specs.Pair.{delta_answer, critical_pairs}
-use Rattle.dz_tree.specs.Fault.{Fault, refusal, rule, fault_of}
+use Rattle.dz_move.specs.Fault.{Fault, refusal, rule, fault_of}
 use Rattle.dz_step.specs.Division.{is_divided}
-use Rattle.dz_tree.specs.Moves.{Action, reduce, weed, add, divide, split, factor, perform}
-use Rattle.dz_tree.specs.Chain.{Evidence}
-use Rattle.dz_tree.specs.Lines.{Line, act, closed, chain, spent, spent_pairs, open_wide, open_separant, open_large, Entry}
+use Rattle.dz_move.specs.Moves.{Action, reduce, weed, add, divide, split, factor, perform}
+use Rattle.dz_move.specs.Lines.{Evidence, Line, act, closed, chain, spent, spent_pairs, open_wide, open_separant, open_large, Entry}
 
 -- ---- one line
 -- a line without evidence

@@ -3,14 +3,14 @@ use Rattle.std.specs.Prelude.{◌≡◌, ℕ, false, true, [], Ok, Some, IsOk}
 use Rattle.dz_algebra.specs.Polynomial.{Polynomial, symbol_polynomial}
 use Rattle.dz_rank.specs.declared.symbols.Symbol.{Symbol}
 use Rattle.dz_diff.specs.Operations.{Setting}
-use Rattle.dz_tree.specs.Root.{is_closed}
+use Rattle.dz_move.specs.Root.{is_closed}
 use Rattle.dz_diff.specs.State.{State, at_place}
 use Rattle.dz_step.specs.declared.Role.TheVariants.{Inequation}
 use Rattle.dz_step.specs.Division.{is_divided}
 use Rattle.dz_step.specs.FullRun.{admits}
 use Rattle.dz_tree.specs.Chain.{chain_rule}
-use Rattle.dz_tree.specs.Lines.{Entry}
-use Rattle.dz_tree.specs.Walk.{entered}
+use Rattle.dz_move.specs.Lines.{Entry}
+use Rattle.dz_check.specs.Walk.{entered}
 
 -- an entry holds at a state and a running weight
 abbrev pub EntryHolds : Setting → ℕ → ℕ → State → Entry → Type 0

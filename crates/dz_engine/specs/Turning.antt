@@ -3,14 +3,14 @@ use Rattle.std.specs.Prelude.{◌≡◌, ⊤, ℕ, ◌+◌, ◌*◌, ◌≤◌, 
 use Rattle.dz_poly.specs.Books.{BookValue}
 use Rattle.dz_diff.specs.Operations.{Setting}
 use Rattle.dz_diff.specs.State.{State}
-use Rattle.dz_tree.specs.declared.lines.Line.{Line as ProgramLine}
-use Rattle.dz_tree.specs.Lines.{Entry, Line, lines_of, lines_of_entry}
-use Rattle.dz_tree.specs.Pending.{PendingValue, StackedIn, cut, pending_states}
-use Rattle.dz_tree.specs.declared.drafts.Reached.{Reached}
+use Rattle.dz_move.specs.declared.lines.Line.{Line as ProgramLine}
+use Rattle.dz_move.specs.Lines.{Entry, Line, lines_of, lines_of_entry}
+use Rattle.dz_check.specs.Pending.{PendingValue, StackedIn, cut, pending_states}
+use Rattle.dz_move.specs.declared.drafts.Reached.{Reached}
 use Rattle.dz_engine.specs.declared.facts.Facts.{Facts}
 use Rattle.dz_engine.specs.Facts.{AreKnown}
-use Rattle.dz_tree.specs.TreeLines.{line_of}
-use Rattle.dz_tree.specs.Walk.{Below, entered}
+use Rattle.dz_move.specs.TreeLines.{line_of}
+use Rattle.dz_check.specs.Walk.{Below, entered}
 use Rattle.dz_engine.specs.declared.decomposing.Pending.{Pending}
 use Rattle.dz_engine.specs.declared.decomposing.Progress.{Progress}
 use Rattle.dz_engine.specs.Order.{next_entry}

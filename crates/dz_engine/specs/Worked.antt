@@ -2,10 +2,11 @@
 use Rattle.std.specs.Prelude.{◌≡◌, ⊤, ℕ, zero, suc, ◌+◌, ◌*◌, List, [], ◌∷◌, ◌++◌, Ok, Err, MatchResult}
 use Rattle.dz_diff.specs.Operations.{Setting}
 use Rattle.dz_diff.specs.State.{State}
-use Rattle.dz_tree.specs.Root.{System, root_of}
-use Rattle.dz_tree.specs.Lines.{Line, Entry, entries_of, lines_of}
+use Rattle.dz_move.specs.Root.{System, root_of}
+use Rattle.dz_move.specs.Lines.{Line, Entry, entries_of, lines_of}
 use Rattle.dz_tree.specs.Forms.{IsTree}
-use Rattle.dz_tree.specs.Walk.{Tree, entered}
+use Rattle.dz_tree.specs.Trees.{Tree}
+use Rattle.dz_check.specs.Walk.{entered}
 use Rattle.dz_engine.specs.Order.{next_entry}
 
 -- each entry is the one that is named at its state and running weight, and holds there

@@ -14,7 +14,7 @@ ghost use Rattle.dz_step.specs.Attempts.{IsAttemptOf};
 ghost use Rattle.dz_step.specs.Divisors.{AreDivisors};
 ghost use Rattle.dz_step.specs.FullRun.{Course, finished, full_run};
 ghost use Rattle.dz_step.specs.declared.Role.TheVariants.{Free};
-ghost use Rattle.dz_tree.specs.TreeLines.{action_of};
+ghost use Rattle.dz_move.specs.TreeLines.{action_of};
 ghost use Rattle.dz_engine.specs.Finding.{role_in};
 ghost use Rattle.dz_engine.specs.Halting.{IsHalt};
 ghost use Rattle.dz_engine.specs.Naming.{CourseHasEntry, HasEntry, IsAction, IsCoursed, IsNamed};
@@ -25,12 +25,12 @@ use crate::admitting::Members;
 use crate::halting::{Halt, halted};
 use crate::naming::{Named, ended};
 use dz_diff::norm_entry;
+use dz_move::{ActionEnd, Line, Next};
 use dz_poly::{Book, Limit, Poly};
 use dz_step::{
     Attempt, Divisor, FullRun, Role, RunEnd, State, StepList, member_at, run_fully, run_with,
 };
 use dz_terms::Entry;
-use dz_tree::{ActionEnd, Line, Next};
 use std::alloc::{AllocError, Global};
 
 /// A full run as it is named: its steps up to its end, with the end and its count, or up to its

@@ -8,7 +8,7 @@ ghost use Rattle.dz_diff.specs.Lists.{AllOf};
 ghost use Rattle.dz_diff.specs.Operations.{setting_of};
 ghost use Rattle.dz_diff.specs.States.{IsStateOf, StandsIn, state_in};
 ghost use Rattle.dz_tree.specs.Belonging.{IsLineOf};
-ghost use Rattle.dz_tree.specs.Systems.{IsSystemIn, system_in};
+ghost use Rattle.dz_move.specs.Systems.{IsSystemIn, system_in};
 ghost use Rattle.dz_engine.specs.Naming.{AfterStands, after_in};
 ghost use Rattle.dz_engine.specs.Facts.{AreKnown};
 ghost use Rattle.dz_engine.specs.Turning.{AreKnownOnTop, ArePushed, AreWorkedLines, IsTopAfter, IsTopNew, IsTurn};
@@ -16,9 +16,10 @@ ghost use Rattle.dz_engine.specs.Worked.{IsWorked};
 
 use crate::facts::Facts;
 use crate::working::{Worked, work};
+use dz_move::{Line, Reached, System, root};
 use dz_poly::{Book, BookMark};
 use dz_step::State;
-use dz_tree::{Line, Reached, System, Tree, root};
+use dz_tree::Tree;
 use std::alloc::{AllocError, Global};
 
 /// A state that is still to come, and the mark up to which its polynomials stand.

@@ -10,9 +10,8 @@ ghost use Rattle.dz_diff.specs.States.{StandsIn, state_in};
 ghost use Rattle.dz_step.specs.Divisors.{AreDivisors};
 ghost use Rattle.dz_step.specs.FullRun.{Course};
 ghost use Rattle.dz_step.specs.declared.Role.TheVariants.{Free};
-ghost use Rattle.dz_tree.specs.Chain.{Evidence};
-ghost use Rattle.dz_tree.specs.Lines.{pair};
-ghost use Rattle.dz_tree.specs.TreeLines.{line_of};
+ghost use Rattle.dz_move.specs.Lines.{Evidence, pair};
+ghost use Rattle.dz_move.specs.TreeLines.{line_of};
 ghost use Rattle.dz_engine.specs.Halting.{IsHalt};
 ghost use Rattle.dz_engine.specs.Naming.{HasEntry, IsNamed, IsOnward, IsPairAt, IsPairCourse, IsPairStop};
 ghost use Rattle.dz_engine.specs.Naming.{IsSoFar, PairHasEntry, line_weight, states_below};
@@ -20,11 +19,11 @@ ghost use Rattle.dz_engine.specs.Order.{delta_at, with_evidence};
 
 use crate::halting::{Halt, halted};
 use crate::naming::{Named, ended};
+use dz_move::{ActionEnd, Line, Next};
 use dz_pair::{delta_entry, pairs};
 use dz_poly::{Book, Limit, PolyStop};
 use dz_step::{Divisor, FullRun, Role, RunEnd, State, StepList, member_at, run_with};
 use dz_terms::{Entry, into_norm};
-use dz_tree::{ActionEnd, Line, Next};
 use std::alloc::{AllocError, Global};
 
 /// The run of a critical pair: to zero, with its weight; past the budget; to an end that is not

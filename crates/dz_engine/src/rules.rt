@@ -7,7 +7,7 @@ ghost use Rattle.dz_diff.specs.States.{StandsIn, state_in};
 ghost use Rattle.dz_terms.specs.Ranked.{symbols_under};
 ghost use Rattle.dz_step.specs.Divisors.{AreDivisors};
 ghost use Rattle.dz_step.specs.declared.Role.TheVariants.{Free};
-ghost use Rattle.dz_tree.specs.Root.{is_closed};
+ghost use Rattle.dz_move.specs.Root.{is_closed};
 ghost use Rattle.dz_engine.specs.Facts.{AreKnown, names_of};
 ghost use Rattle.dz_engine.specs.Naming.{IsFound, split_entry};
 ghost use Rattle.dz_engine.specs.Order.{next_entry};
@@ -17,9 +17,9 @@ use crate::dividing::divisible;
 use crate::factoring::factorable;
 use crate::facts::Facts;
 use crate::splitting::splittable;
+use dz_move::Next;
 use dz_poly::Book;
 use dz_step::{Divisor, State, Which};
-use dz_tree::Next;
 use std::alloc::AllocError;
 
 /// What the first rule that finds something finds.

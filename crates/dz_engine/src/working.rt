@@ -6,20 +6,20 @@ ghost use Rattle.dz_terms.specs.Ranked.{symbols_under};
 ghost use Rattle.dz_diff.specs.Operations.{Setting, setting_of};
 ghost use Rattle.dz_diff.specs.State.{State as DefinedState};
 ghost use Rattle.dz_diff.specs.States.{IsStateOf, StandsIn, state_in};
-ghost use Rattle.dz_tree.specs.Actions.{IsMoveFault, IsPerformed};
-ghost use Rattle.dz_tree.specs.Lines.{lines_of_entry};
-ghost use Rattle.dz_tree.specs.Moves.{perform};
-ghost use Rattle.dz_tree.specs.Parts.{is_act};
-ghost use Rattle.dz_tree.specs.TreeLines.{action_of, line_of};
+ghost use Rattle.dz_move.specs.Actions.{IsMoveFault, IsPerformed};
+ghost use Rattle.dz_move.specs.Lines.{lines_of_entry};
+ghost use Rattle.dz_move.specs.Moves.{perform};
+ghost use Rattle.dz_move.specs.Parts.{is_act};
+ghost use Rattle.dz_move.specs.TreeLines.{action_of, line_of};
 ghost use Rattle.dz_engine.specs.Facts.{AreKnown};
 ghost use Rattle.dz_engine.specs.Naming.{IsAction, IsDone};
 ghost use Rattle.dz_engine.specs.Order.{line_alone, next_entry, plain};
 
 use crate::facts::Facts;
 use crate::naming::{Named, acted, entry_named};
+use dz_move::{Line, MoveFault, Next, Performed, Reached, perform_next, perform_to};
 use dz_poly::Book;
 use dz_step::State;
-use dz_tree::{Line, MoveFault, Next, Performed, Reached, perform_next, perform_to};
 use std::alloc::{AllocError, Global};
 
 /// The lines at a state, their weight, and the states that they leave.

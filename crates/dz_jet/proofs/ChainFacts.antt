@@ -23,7 +23,7 @@ use Rattle.dz_diff.specs.State.{State, at_place}
 use Rattle.dz_diff.specs.Tests.{Polynomials, is_equal, is_zero, same_symbol}
 use Rattle.dz_diff.proofs.Answers.{bind_ok, told_ok, then_ok, given_then, both, is_false}
 use Rattle.dz_diff.proofs.Places.{some_left, some_right}
-use Rattle.dz_tree.proofs.RootStates.{or_none}
+use Rattle.dz_move.proofs.RootStates.{or_none}
 use Rattle.dz_diff.proofs.LeaderBounds.{leader_degree}
 use Rattle.dz_step.specs.declared.Role.TheVariants.{Free}
 use Rattle.dz_step.specs.declared.Step.{Step}
@@ -32,9 +32,10 @@ use Rattle.dz_step.specs.Run.{Ran, run}
 use Rattle.dz_step.specs.Step.{step_degree}
 use Rattle.dz_step.proofs.NoSteps.{occurring}
 use Rattle.dz_pair.specs.Pair.{is_pair, common, delta_answer, pairs_with, pairs_from, critical_pairs}
-use Rattle.dz_tree.specs.declared.Rule.TheVariants as rules
-use Rattle.dz_tree.specs.Chain.{Evidence, passes, has_leaders, is_reducible, reducible_by, autoreduced_from, is_autoreduced, separant_fits, has_permitted, is_reduced, same_pairs, chain_rule, is_below, evidence_weight, evidence_from, chain_weight}
-use Rattle.dz_tree.specs.Fault.{rule_of, rule_of_refusal, run_fault}
+use Rattle.dz_move.specs.declared.Rule.TheVariants as rules
+use Rattle.dz_move.specs.Lines.{Evidence}
+use Rattle.dz_tree.specs.Chain.{passes, has_leaders, is_reducible, reducible_by, autoreduced_from, is_autoreduced, separant_fits, has_permitted, is_reduced, same_pairs, chain_rule, is_below, evidence_weight, evidence_from, chain_weight}
+use Rattle.dz_move.specs.Fault.{rule_of, rule_of_refusal, run_fault}
 use Rattle.dz_jet.proofs.IdealRuns.{passes_some}
 
 -- ---- tests

@@ -23,7 +23,7 @@ use Rattle.dz_diff.proofs.Answers.{ok_same}
 use Rattle.dz_diff.proofs.Places.{taken}
 use Rattle.dz_step.specs.declared.Which.TheVariants.{Initial, Separant}
 use Rattle.dz_step.specs.Step.{multiplier_answer}
-use Rattle.dz_tree.specs.Chain.{Evidence}
+use Rattle.dz_move.specs.Lines.{Evidence}
 use Rattle.dz_jet.specs.Chains.{Reaching, derivative_in}
 use Rattle.dz_jet.specs.Clashes.{IsChain, HasZero, AreAdmissible, IsFixed, AgreesAt, IsInitialSegment}
 use Rattle.dz_jet.specs.Laws.{ClashLaws}

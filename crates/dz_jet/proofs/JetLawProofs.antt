@@ -9,7 +9,7 @@ use Rattle.dz_rank.specs.declared.symbols.Symbol.{Symbol}
 use Rattle.dz_terms.specs.Ranked.{symbols_under}
 use Rattle.dz_diff.specs.State.{State}
 use Rattle.dz_diff.proofs.Answers.{bind_ok}
-use Rattle.dz_tree.specs.Chain.{Evidence}
+use Rattle.dz_move.specs.Lines.{Evidence}
 use Rattle.dz_jet.specs.Clashes.{IsChain, AgreesAt, IsDerivativeIn}
 use Rattle.dz_jet.specs.Fractions.{whole, fraction_operations}
 use Rattle.dz_jet.specs.declared.faults.JetFault.{JetFault}

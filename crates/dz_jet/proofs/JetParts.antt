@@ -35,7 +35,8 @@ use Rattle.dz_diff.proofs.Overs.{regular_over}
 use Rattle.dz_step.specs.FullRun.{derivatives_of}
 use Rattle.dz_step.specs.Step.{step_degree}
 use Rattle.dz_step.proofs.NoSteps.{occurring}
-use Rattle.dz_tree.specs.Chain.{Evidence, passes}
+use Rattle.dz_move.specs.Lines.{Evidence}
+use Rattle.dz_tree.specs.Chain.{passes}
 use Rattle.dz_jet.specs.Jets.{Leading, led_by, leading_to, is_needed}
 use Rattle.dz_jet.proofs.ChainFacts.{ChainFacts, no_two, none_of, not_reducible}
 use Rattle.dz_jet.proofs.PairSteps.{quotient_leads, four}

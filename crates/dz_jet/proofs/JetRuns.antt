@@ -15,7 +15,8 @@ use Rattle.dz_diff.specs.State.{State, at_place}
 use Rattle.dz_diff.specs.Tests.{Polynomials}
 use Rattle.dz_diff.proofs.Answers.{bind_ok, ok_same, both}
 use Rattle.dz_diff.proofs.Places.{all-append, some_right}
-use Rattle.dz_tree.specs.Chain.{Evidence, passes, has_leaders}
+use Rattle.dz_move.specs.Lines.{Evidence}
+use Rattle.dz_tree.specs.Chain.{passes, has_leaders}
 use Rattle.dz_jet.specs.Chains.{Reaching, derivative_in}
 use Rattle.dz_jet.specs.Clashes.{IsChain, HasZero, AreAdmissible, IsFixed, AgreesAt, IsDerivativeIn, IsInitialSegment}
 use Rattle.dz_jet.specs.Fractions.{whole, fraction_arithmetic, fraction_operations, is_reduced}

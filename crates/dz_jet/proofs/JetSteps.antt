@@ -25,7 +25,7 @@ use Rattle.dz_diff.proofs.Answers.{bind_ok, told_ok}
 use Rattle.dz_diff.proofs.OperatorLeaders.{derivative_grows}
 use Rattle.dz_diff.proofs.Places.{all-append, some_parts, some_left, some_right}
 use Rattle.dz_diff.proofs.ProperDerivatives.{proper_derivative_linear}
-use Rattle.dz_tree.specs.Chain.{Evidence}
+use Rattle.dz_move.specs.Lines.{Evidence}
 use Rattle.dz_jet.specs.Chains.{Reaching}
 use Rattle.dz_jet.specs.Fractions.{whole, fraction_arithmetic, fraction_operations, fraction_negative, is_reduced, quotient_answer}
 use Rattle.dz_jet.specs.declared.faults.At.TheVariants as ats

@@ -22,7 +22,8 @@ use Rattle.dz_diff.specs.Operations.{setting_of}
 use Rattle.dz_diff.specs.Operators.{divides}
 use Rattle.dz_diff.specs.State.{State, at_place}
 use Rattle.dz_pair.specs.Pair.{are_crossing, leaders_cross, is_pair, common_of_leaders}
-use Rattle.dz_tree.specs.Chain.{Evidence, evidence_weight}
+use Rattle.dz_move.specs.Lines.{Evidence}
+use Rattle.dz_tree.specs.Chain.{evidence_weight}
 use Rattle.dz_jet.specs.Chains.{Reaching}
 use Rattle.dz_jet.specs.Clashes.{IsDerivativeIn, IsInitialSegment}
 use Rattle.dz_jet.proofs.ChainFacts.{ChainFacts, AreInSignature, evidence_of, all_two, leaders_differ, not_reducible, not_divided, pair_from, pair_run}

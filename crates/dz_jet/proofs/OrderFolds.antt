@@ -10,7 +10,7 @@ use Rattle.dz_poly.specs.Books.{BookValue, IsBook, polynomial}
 use Rattle.dz_rank.specs.declared.symbols.Symbol.{Symbol}
 use Rattle.dz_terms.specs.Ranked.{symbols_under}
 use Rattle.dz_diff.specs.States.{LiveAll, polynomials}
-use Rattle.dz_tree.proofs.RootStates.{or_none}
+use Rattle.dz_move.proofs.RootStates.{or_none}
 use Rattle.dz_step.proofs.DivisorTables.{polynomial_here, polynomials_length}
 use Rattle.dz_step.proofs.Searches.{drop_here}
 use Rattle.std.proofs.lemmas.List.Elements.{All-head, All-tail}

@@ -14,7 +14,8 @@ use Rattle.dz_diff.specs.Operations.{setting_of}
 use Rattle.dz_diff.specs.Operators.{is_proper}
 use Rattle.dz_diff.specs.Over.{IsOver}
 use Rattle.dz_diff.specs.State.{State}
-use Rattle.dz_tree.specs.Chain.{Evidence, chain_weight}
+use Rattle.dz_move.specs.Lines.{Evidence}
+use Rattle.dz_tree.specs.Chain.{chain_weight}
 use Rattle.dz_jet.specs.Chains.{Reaching, derivative_in}
 
 -- a state with polynomials over a ranking is a chain with the evidence, whatever that weighs

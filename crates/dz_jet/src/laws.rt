@@ -7,7 +7,7 @@ ghost use Rattle.dz_algebra.specs.Domain.{Operations, DomainLaws};
 ghost use Rattle.dz_rank.specs.Rankings.{RankingValue, IsOrderly};
 ghost use Rattle.dz_rank.specs.declared.symbols.Symbol.{Symbol};
 ghost use Rattle.dz_diff.specs.State.{State};
-ghost use Rattle.dz_tree.specs.Chain.{Evidence};
+ghost use Rattle.dz_move.specs.Lines.{Evidence};
 ghost use Rattle.dz_jet.specs.Clashes.{AreAdmissible, IsChain};
 ghost use Rattle.dz_jet.specs.Laws.{ClashLaws, JetLaws};
 ghost use Rattle.dz_jet.specs.Fractions.{fraction_operations};

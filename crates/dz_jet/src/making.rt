@@ -8,7 +8,7 @@ ghost use Rattle.dz_rank.specs.declared.symbols.Symbol.{Symbol as SymbolValue};
 ghost use Rattle.dz_terms.specs.Ranked.{symbols_under};
 ghost use Rattle.dz_diff.specs.States.{StandsIn, state_in};
 ghost use Rattle.dz_jet.specs.declared.faults.JetFault.TheVariants.{NotOrderly};
-ghost use Rattle.dz_tree.specs.Chain.{Evidence};
+ghost use Rattle.dz_move.specs.Lines.{Evidence};
 ghost use Rattle.dz_jet.specs.Clashes.{AgreesAt, IsChain};
 ghost use Rattle.dz_jet.specs.FaultSymbols.{IsFaultOver};
 ghost use Rattle.dz_jet.specs.Fractions.{fraction_operations};

@@ -7,11 +7,11 @@ ghost use Rattle.dz_syntax.specs.Systems.{HasExpressions, tree_of};
 ghost use Rattle.dz_diff.specs.States.{LiveAll, StandsIn};
 
 use dz_form::expand;
+use dz_move::{System, root};
 use dz_poly::{Book, Poly};
 use dz_rank::Ranking;
 use dz_step::State;
 use dz_syntax::{Item, SystemTree};
-use dz_tree::{System, root};
 use std::alloc::Global;
 
 /// A book without polynomials under the ranking of a system.

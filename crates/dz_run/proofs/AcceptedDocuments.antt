@@ -26,9 +26,10 @@ use Rattle.dz_syntax.proofs.DocumentsFollow.{documents_follow}
 use Rattle.dz_syntax.proofs.Ranked.{system_ranked, system_signature}
 use Rattle.dz_syntax.proofs.SystemExpressions.{system_expressions}
 use Rattle.dz_syntax.proofs.SystemReadings.{system_again}
-use Rattle.dz_tree.specs.Certified.{IsCertified}
-use Rattle.dz_tree.specs.Root.{System}
-use Rattle.dz_tree.specs.Walk.{Tree, all_chains, ends_in, ends_of}
+use Rattle.dz_check.specs.Certified.{IsCertified}
+use Rattle.dz_move.specs.Root.{System}
+use Rattle.dz_tree.specs.Trees.{Tree}
+use Rattle.dz_check.specs.Walk.{all_chains, ends_in, ends_of}
 use Rattle.dz_words.specs.declared.verbs.Verb.TheVariants.{Check, Decompose}
 use Rattle.dz_words.specs.declared.words.Request.{Request}
 use Rattle.dz_run.specs.Accepted.{IsAccepted, taken}

@@ -11,8 +11,8 @@ use Rattle.dz_rank.specs.Rankings.{RankingValue}
 use Rattle.dz_report.specs.Reports.{Report}
 use Rattle.dz_syntax.specs.Names.{Declared}
 use Rattle.dz_syntax.specs.Systems.{Tree as Text}
-use Rattle.dz_tree.specs.Root.{System}
-use Rattle.dz_tree.specs.Systems.{IsSystemIn, SystemValue, system_in, system_limit}
+use Rattle.dz_move.specs.Root.{System}
+use Rattle.dz_move.specs.Systems.{IsSystemIn, SystemValue, system_in, system_limit}
 use Rattle.dz_run.specs.declared.asking.Asked.{Asked}
 use Rattle.dz_run.specs.declared.ending.Ending.{Ending}
 use Rattle.dz_run.specs.declared.ending.Ending.TheVariants.{Done}

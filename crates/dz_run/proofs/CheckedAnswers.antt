@@ -6,7 +6,7 @@ use Rattle.dz_cert.specs.Readers.{texts_of}
 use Rattle.dz_cert.specs.Reading.{Fault, Reading}
 use Rattle.dz_cert.specs.declared.document.Document.{Document}
 use Rattle.dz_syntax.specs.Systems.{Tree as Text}
-use Rattle.dz_tree.specs.Walk.{Tree}
+use Rattle.dz_tree.specs.Trees.{Tree}
 use Rattle.dz_run.specs.Answer.{with_system}
 use Rattle.dz_run.specs.Checked.{checked_document, document_told}
 use Rattle.dz_run.specs.System.{ranking_of}

@@ -5,15 +5,16 @@ use Rattle.dz_diff.specs.Operations.{Setting}
 use Rattle.dz_diff.specs.Outcome.{◌>>=◌, told_as}
 use Rattle.dz_diff.specs.State.{State}
 use Rattle.dz_diff.proofs.Answers.{bind_ok, ok_same, then_ok}
-use Rattle.dz_tree.specs.Certified.{IsCertified}
-use Rattle.dz_tree.specs.Chain.{Evidence, chain_weight}
-use Rattle.dz_tree.specs.Lines.{Line, act, closed, chain, pair, spent, spent_pairs, open_wide, open_separant, open_large, Entry, entries_of, lines_of}
-use Rattle.dz_tree.specs.Moves.{perform}
-use Rattle.dz_tree.specs.Reasons.{reason_holds}
-use Rattle.dz_tree.specs.Root.{System, is_closed, root_of}
-use Rattle.dz_tree.specs.Walk.{Below, End, Tree, all_chains, ended, ends_in, ends_of, entered, is_chain_end, nothing_below, told_at_line, walk}
-use Rattle.dz_tree.specs.declared.Rule.{Rule}
-use Rattle.dz_tree.proofs.Certifying.{answer_certified}
+use Rattle.dz_check.specs.Certified.{IsCertified}
+use Rattle.dz_tree.specs.Chain.{chain_weight}
+use Rattle.dz_move.specs.Lines.{Evidence, Line, act, closed, chain, pair, spent, spent_pairs, open_wide, open_separant, open_large, Entry, entries_of, lines_of}
+use Rattle.dz_move.specs.Moves.{perform}
+use Rattle.dz_check.specs.Reasons.{reason_holds}
+use Rattle.dz_move.specs.Root.{System, is_closed, root_of}
+use Rattle.dz_tree.specs.Trees.{Tree}
+use Rattle.dz_check.specs.Walk.{Below, End, all_chains, ended, ends_in, ends_of, entered, is_chain_end, nothing_below, told_at_line, walk}
+use Rattle.dz_move.specs.declared.Rule.{Rule}
+use Rattle.dz_check.proofs.Certifying.{answer_certified}
 use Rattle.dz_tree.proofs.TreeEntries.{lines_of_entries}
 use Rattle.dz_run.specs.declared.ending.Ending.{Ending}
 use Rattle.dz_run.specs.declared.ending.Ending.TheVariants.{Done}

@@ -12,14 +12,15 @@ use Rattle.dz_diff.specs.Operations.{setting_of}
 use Rattle.dz_diff.specs.Over.{AreOver, IsOver}
 use Rattle.dz_diff.specs.State.{State}
 use Rattle.dz_diff.specs.Tests.{Polynomials}
-use Rattle.dz_tree.specs.Certified.{IsCertified}
+use Rattle.dz_check.specs.Certified.{IsCertified}
 use Rattle.dz_tree.specs.Chains.{IsChain}
-use Rattle.dz_tree.specs.Root.{System}
-use Rattle.dz_tree.specs.Standing.{MayStand}
-use Rattle.dz_tree.specs.Walk.{Tree, all_chains, ends_in, ends_of}
-use Rattle.dz_tree.proofs.CertifiedChains.{chains_are}
-use Rattle.dz_tree.proofs.KeepableStates.{keepables_over}
-use Rattle.dz_tree.proofs.KeptMembers.{all_give}
+use Rattle.dz_move.specs.Root.{System}
+use Rattle.dz_move.specs.Standing.{MayStand}
+use Rattle.dz_tree.specs.Trees.{Tree}
+use Rattle.dz_check.specs.Walk.{all_chains, ends_in, ends_of}
+use Rattle.dz_check.proofs.CertifiedChains.{chains_are}
+use Rattle.dz_move.proofs.KeepableStates.{keepables_over}
+use Rattle.dz_move.proofs.KeptMembers.{all_give}
 use Rattle.dz_rank.specs.Rankings.{RankingValue}
 use Rattle.dz_rank.specs.declared.symbols.Symbol.{Symbol}
 use Rattle.dz_report.specs.Reductions.{reduction_report}

@@ -5,8 +5,8 @@ use Rattle.std.specs.Io.KnownBytes.{Appends, Keeps}
 use Rattle.dz_rank.specs.Rankings.{RankingValue}
 use Rattle.dz_diff.specs.Operations.{setting_of}
 use Rattle.dz_diff.specs.State.{State}
-use Rattle.dz_tree.specs.Lines.{Line, act, closed, chain, pair, spent, spent_pairs, open_wide, open_separant, open_large}
-use Rattle.dz_tree.specs.Root.{System}
+use Rattle.dz_move.specs.Lines.{Line, act, closed, chain, pair, spent, spent_pairs, open_wide, open_separant, open_large}
+use Rattle.dz_move.specs.Root.{System}
 use Rattle.dz_cert.specs.Reading.{Fault, Reading, bad_line, bytes_after, document_at, ends_early}
 use Rattle.dz_cert.specs.declared.checking.DocumentVerdict.{DocumentVerdict}
 use Rattle.dz_cert.specs.declared.checking.DocumentVerdict.TheVariants as verdicts

@@ -15,9 +15,9 @@ use Rattle.dz_syntax.specs.Postfix.{IsExpression}
 use Rattle.dz_syntax.specs.Systems.{HasExpressions, Tree as Text}
 use Rattle.dz_terms.specs.Entries.{IsKeepable}
 use Rattle.dz_terms.specs.Ranked.{symbols_under}
-use Rattle.dz_tree.specs.Root.{System}
-use Rattle.dz_tree.specs.Standing.{MayStand}
-use Rattle.dz_tree.specs.Systems.{system_limit}
+use Rattle.dz_move.specs.Root.{System}
+use Rattle.dz_move.specs.Standing.{MayStand}
+use Rattle.dz_move.specs.Systems.{system_limit}
 use Rattle.dz_run.specs.declared.system.Group.{Group}
 use Rattle.dz_run.specs.declared.system.Group.TheVariants.{Equation, Inequation, Question}
 use Rattle.dz_run.specs.declared.system.Refused.{Refused}

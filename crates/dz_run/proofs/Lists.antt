@@ -12,11 +12,11 @@ use Rattle.dz_rank.specs.declared.symbols.Symbol.{Symbol}
 use Rattle.dz_syntax.specs.declared.expression.Op.{Op}
 use Rattle.dz_syntax.specs.Systems.{Tree}
 use Rattle.dz_terms.specs.Ranked.{symbols_under}
-use Rattle.dz_tree.specs.Root.{System}
+use Rattle.dz_move.specs.Root.{System}
 use Rattle.dz_diff.specs.States.{LiveAll, polynomials}
 use Rattle.dz_diff.specs.Tests.{Polynomials}
 use Rattle.dz_diff.proofs.KeptStates.{kept_polynomials, live_on}
-use Rattle.dz_tree.specs.Systems.{IsSystemIn, SystemValue, system_in, system_limit}
+use Rattle.dz_move.specs.Systems.{IsSystemIn, SystemValue, system_in, system_limit}
 use Rattle.dz_run.specs.declared.system.Group.{Group}
 use Rattle.dz_run.specs.declared.system.Group.TheVariants.{Equation, Inequation}
 use Rattle.dz_run.specs.declared.system.Refused.{Refused}

@@ -17,11 +17,12 @@ use Rattle.dz_step.specs.StepOperators.{DeriveAlong}
 use Rattle.dz_step.specs.declared.Step.{Step}
 use Rattle.dz_tree.specs.Belonging.{AreStepsOf, IsActionOf, IsLineOf}
 use Rattle.dz_tree.specs.LineOperators.{HaveOperatorsOf, steps_in}
-use Rattle.dz_tree.specs.Lines.{Line, act, closed, chain, pair, spent, spent_pairs, open_wide, open_separant, open_large}
-use Rattle.dz_tree.specs.Moves.{Action, reduce, weed, add, divide, split, factor, steps_of}
-use Rattle.dz_tree.specs.Root.{System}
-use Rattle.dz_tree.specs.Systems.{IsSystemIn, SystemValue, system_in}
-use Rattle.dz_tree.specs.Walk.{Tree, verdict_of}
+use Rattle.dz_move.specs.Lines.{Line, act, closed, chain, pair, spent, spent_pairs, open_wide, open_separant, open_large}
+use Rattle.dz_move.specs.Moves.{Action, reduce, weed, add, divide, split, factor, steps_of}
+use Rattle.dz_move.specs.Root.{System}
+use Rattle.dz_move.specs.Systems.{IsSystemIn, SystemValue, system_in}
+use Rattle.dz_tree.specs.Trees.{Tree}
+use Rattle.dz_check.specs.Walk.{verdict_of}
 use Rattle.dz_engine.specs.Worked.{IsWorked, worked_tree}
 use Rattle.dz_run.specs.declared.ending.Ending.{Ending}
 use Rattle.dz_run.specs.Answer.{printed}

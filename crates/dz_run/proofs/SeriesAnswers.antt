@@ -7,7 +7,7 @@ use Rattle.dz_rank.specs.Rankings.{RankingValue}
 use Rattle.dz_jet.specs.Jets.{Values}
 use Rattle.dz_series.specs.SeriesReports.{SeriesEnding, SeriesReport, refused}
 use Rattle.dz_syntax.specs.Names.{Declared}
-use Rattle.dz_tree.specs.Root.{System}
+use Rattle.dz_move.specs.Root.{System}
 use Rattle.dz_words.specs.declared.words.Request.{Request}
 use Rattle.dz_run.specs.declared.ending.Ending.{Ending}
 use Rattle.dz_run.specs.declared.ending.Ending.TheVariants.{Done, Point}

@@ -7,11 +7,11 @@ use Rattle.dz_diff.specs.Operations.{setting_of}
 use Rattle.dz_diff.specs.State.{State}
 use Rattle.dz_syntax.specs.Names.{Declared, signature_of}
 use Rattle.dz_tree.specs.Belonging.{IsLineOf}
-use Rattle.dz_tree.specs.Certified.{IsCertified}
-use Rattle.dz_tree.specs.Lines.{Line}
-use Rattle.dz_tree.specs.Standing.{MayStand}
-use Rattle.dz_tree.specs.Systems.{IsSystemIn, SystemValue, system_in}
-use Rattle.dz_tree.specs.Walk.{Tree}
+use Rattle.dz_check.specs.Certified.{IsCertified}
+use Rattle.dz_move.specs.Lines.{Line}
+use Rattle.dz_move.specs.Standing.{MayStand}
+use Rattle.dz_move.specs.Systems.{IsSystemIn, SystemValue, system_in}
+use Rattle.dz_tree.specs.Trees.{Tree}
 use Rattle.dz_cert.specs.Documents.{document_of}
 use Rattle.dz_engine.specs.Worked.{IsWorked, worked_tree}
 use Rattle.dz_engine.proofs.NamedLines.{keepables_in}

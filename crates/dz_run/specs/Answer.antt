@@ -2,7 +2,7 @@
 use Rattle.std.specs.Prelude.{ℕ, List, [], ◌++◌, Result, Ok, Err}
 use Rattle.dz_diff.specs.Tests.{Polynomials}
 use Rattle.dz_syntax.specs.Systems.{Tree as Text}
-use Rattle.dz_tree.specs.Root.{System}
+use Rattle.dz_move.specs.Root.{System}
 use Rattle.dz_run.specs.declared.ending.Ending.{Ending}
 use Rattle.dz_run.specs.declared.ending.Ending.TheVariants.{Done, Wide, Large}
 use Rattle.dz_run.specs.declared.system.Refused.{Refused}

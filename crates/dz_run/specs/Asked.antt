@@ -5,7 +5,7 @@ use Rattle.dz_diff.specs.Operations.{Setting, setting_of}
 use Rattle.dz_diff.specs.State.{State}
 use Rattle.dz_diff.specs.Tests.{Polynomials}
 use Rattle.dz_syntax.specs.Names.{Declared}
-use Rattle.dz_tree.specs.Root.{System}
+use Rattle.dz_move.specs.Root.{System}
 use Rattle.dz_cert.specs.Documents.{ended_lines}
 use Rattle.dz_report.specs.Preparations.{preparation_report}
 use Rattle.dz_report.specs.Reductions.{reduction_report}

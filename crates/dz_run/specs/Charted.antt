@@ -4,7 +4,7 @@ use Rattle.std.specs.Fmt.{decimal}
 use Rattle.dz_rank.specs.Rankings.{RankingValue}
 use Rattle.dz_diff.specs.State.{State}
 use Rattle.dz_syntax.specs.Names.{Declared}
-use Rattle.dz_tree.specs.Root.{System}
+use Rattle.dz_move.specs.Root.{System}
 use Rattle.dz_jet.specs.Jets.{Values}
 use Rattle.dz_series.specs.SeriesReports.{SeriesReport, done, wide, large, refused, series_report}
 use Rattle.dz_words.specs.declared.words.Request.{Request}

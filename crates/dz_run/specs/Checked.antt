@@ -5,10 +5,10 @@ use Rattle.dz_rank.specs.Rankings.{RankingValue}
 use Rattle.dz_diff.specs.Operations.{setting_of}
 use Rattle.dz_syntax.specs.Names.{Declared}
 use Rattle.dz_syntax.specs.Systems.{Tree as Text}
-use Rattle.dz_tree.specs.Root.{System}
-use Rattle.dz_tree.specs.Walk.{Tree}
-use Rattle.dz_tree.specs.declared.Rule.{Rule}
-use Rattle.dz_tree.specs.declared.Rule.TheVariants as rules
+use Rattle.dz_move.specs.Root.{System}
+use Rattle.dz_tree.specs.Trees.{Tree}
+use Rattle.dz_move.specs.declared.Rule.{Rule}
+use Rattle.dz_move.specs.declared.Rule.TheVariants as rules
 use Rattle.dz_cert.specs.CertFaults.{tree_read}
 use Rattle.dz_cert.specs.Documents.{ChainTexts}
 use Rattle.dz_cert.specs.Reading.{Fault, Reading, bad_line, bytes_after, ends_early}

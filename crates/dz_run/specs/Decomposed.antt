@@ -4,9 +4,10 @@ use Rattle.dz_rank.specs.Rankings.{RankingValue}
 use Rattle.dz_diff.specs.Operations.{setting_of}
 use Rattle.dz_diff.specs.State.{State}
 use Rattle.dz_syntax.specs.Names.{Declared}
-use Rattle.dz_tree.specs.Lines.{Line, spent, spent_pairs, open_wide, open_separant, open_large}
-use Rattle.dz_tree.specs.Root.{System}
-use Rattle.dz_tree.specs.Walk.{Tree, chains_of, ends_in, ends_of}
+use Rattle.dz_move.specs.Lines.{Line, spent, spent_pairs, open_wide, open_separant, open_large}
+use Rattle.dz_move.specs.Root.{System}
+use Rattle.dz_tree.specs.Trees.{Tree}
+use Rattle.dz_check.specs.Walk.{chains_of, ends_in, ends_of}
 use Rattle.dz_engine.specs.Worked.{worked_tree}
 use Rattle.dz_cert.specs.Documents.{document_of}
 use Rattle.dz_run.specs.declared.ending.Ending.{Ending}

@@ -10,10 +10,11 @@ use Rattle.dz_diff.specs.Tests.{Polynomials}
 use Rattle.dz_syntax.specs.declared.endings.Form.TheVariants.{Plain, Questions}
 use Rattle.dz_syntax.specs.SystemGrammar.{IsSystem}
 use Rattle.dz_syntax.specs.Systems.{Tree as Text}
-use Rattle.dz_tree.specs.Certified.{IsCertified}
+use Rattle.dz_check.specs.Certified.{IsCertified}
 use Rattle.dz_tree.specs.Chains.{IsChain}
-use Rattle.dz_tree.specs.Root.{System}
-use Rattle.dz_tree.specs.Walk.{Tree, all_chains, ends_in, ends_of}
+use Rattle.dz_move.specs.Root.{System}
+use Rattle.dz_tree.specs.Trees.{Tree}
+use Rattle.dz_check.specs.Walk.{all_chains, ends_in, ends_of}
 use Rattle.dz_ask.specs.Vanishing.{RunsToZero}
 use Rattle.dz_cert.specs.Documents.{document_of, ended_lines}
 use Rattle.dz_report.specs.Reductions.{reduction_report}

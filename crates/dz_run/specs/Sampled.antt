@@ -4,8 +4,9 @@ use Rattle.std.specs.List.{sum_by}
 use Rattle.dz_rank.specs.Rankings.{RankingValue}
 use Rattle.dz_diff.specs.Operations.{setting_of}
 use Rattle.dz_diff.specs.State.{State}
-use Rattle.dz_tree.specs.Root.{System}
-use Rattle.dz_tree.specs.Walk.{Tree, Verdict, accepted, verdict_of}
+use Rattle.dz_move.specs.Root.{System}
+use Rattle.dz_tree.specs.Trees.{Tree}
+use Rattle.dz_check.specs.Walk.{Verdict, accepted, verdict_of}
 use Rattle.dz_engine.specs.Worked.{worked_tree}
 use Rattle.dz_sample.specs.Ranking.{sample_ranking}
 use Rattle.dz_sample.specs.Summary.{summary_text}

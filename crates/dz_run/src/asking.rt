@@ -5,7 +5,7 @@ ghost use Rattle.dz_diff.specs.Operations.{setting_of};
 ghost use Rattle.dz_diff.specs.States.{LiveAll, StandsIn, polynomials, state_in};
 ghost use Rattle.dz_syntax.specs.Names.{signature_of};
 ghost use Rattle.dz_syntax.specs.Systems.{HasExpressions, tree_of};
-ghost use Rattle.dz_tree.specs.Systems.{IsSystemIn, system_in};
+ghost use Rattle.dz_move.specs.Systems.{IsSystemIn, system_in};
 ghost use Rattle.dz_run.specs.Answer.{answer_of, with_questions};
 ghost use Rattle.dz_run.specs.Asked.{asked, report_ending, report_of};
 ghost use Rattle.dz_run.specs.System.{ranking_of};
@@ -15,10 +15,10 @@ use crate::ending::Ending;
 use crate::system::{Stop, questions_of, system_of};
 use crate::told::{Told, refused_answer};
 use dz_diff::State;
+use dz_move::System;
 use dz_poly::{Book, Poly};
 use dz_report::{ReportEnd, write_preparations, write_reductions};
 use dz_syntax::{Names, SystemTree};
-use dz_tree::System;
 use std::alloc::{AllocError, Global};
 
 /// What is asked of chains.

@@ -4,8 +4,8 @@ ghost use Rattle.dz_diff.specs.States.{StandsIn, state_in};
 ghost use Rattle.dz_poly.specs.Books.{IsKept};
 ghost use Rattle.dz_syntax.specs.Names.{signature_of};
 ghost use Rattle.dz_syntax.specs.Systems.{HasExpressions, tree_of};
-ghost use Rattle.dz_tree.specs.Systems.{IsSystemIn, system_in};
-ghost use Rattle.dz_tree.specs.TreeLines.{line_of};
+ghost use Rattle.dz_move.specs.Systems.{IsSystemIn, system_in};
+ghost use Rattle.dz_move.specs.TreeLines.{line_of};
 ghost use Rattle.dz_run.specs.Answer.{answer_of, printed, with_system};
 ghost use Rattle.dz_run.specs.Decomposed.{decomposed, lines_ending, open_ending, worked_chains};
 ghost use Rattle.dz_run.specs.System.{ranking_of};
@@ -14,11 +14,12 @@ use crate::ending::Ending;
 use crate::system::{Stop, system_of};
 use crate::told::{Told, refused_answer};
 use dz_cert::write_document_with;
+use dz_check::chains;
 use dz_diff::State;
 use dz_engine::decompose;
+use dz_move::{Line, System};
 use dz_poly::Book;
 use dz_syntax::{Names, SystemTree};
-use dz_tree::{Line, System, chains};
 use std::alloc::{AllocError, Global};
 
 /// How the run ends for an open end of a tree.

@@ -4,7 +4,7 @@ ghost use Rattle.std.specs.Prelude.{◌≡◌, ◌≤◌, ℕ, List, Ok};
 ghost use Rattle.dz_syntax.specs.SystemGrammar.{IsSystem};
 ghost use Rattle.dz_syntax.specs.Systems.{Tree as Text};
 ghost use Rattle.dz_syntax.specs.declared.endings.Form.TheVariants.{Plain};
-ghost use Rattle.dz_tree.specs.Root.{System};
+ghost use Rattle.dz_move.specs.Root.{System};
 ghost use Rattle.dz_words.specs.declared.verbs.Verb.TheVariants.{Check, Decompose};
 ghost use Rattle.dz_words.specs.declared.words.Request.{Request};
 ghost use Rattle.dz_run.specs.Accepted.{IsAccepted};

@@ -5,19 +5,21 @@ ghost use Rattle.dz_diff.specs.Operations.{setting_of};
 ghost use Rattle.dz_diff.specs.States.{state_in};
 ghost use Rattle.dz_poly.specs.Books.{BookValue};
 ghost use Rattle.dz_tree.specs.Belonging.{IsLineOf};
-ghost use Rattle.dz_tree.specs.Certified.{IsCertified};
-ghost use Rattle.dz_tree.specs.Systems.{IsSystemIn, system_in};
-ghost use Rattle.dz_tree.specs.TreeLines.{verdict_as};
+ghost use Rattle.dz_check.specs.Certified.{IsCertified};
+ghost use Rattle.dz_move.specs.Systems.{IsSystemIn, system_in};
+ghost use Rattle.dz_check.specs.Verdicts.{verdict_as};
 ghost use Rattle.dz_run.specs.Answer.{answer_of};
 ghost use Rattle.dz_run.specs.Sampled.{is_accepted, member_count, sampled, summary_of};
 
 use crate::decomposing::lines_ending;
 use crate::told::Told;
+use dz_check::{Verdict, chains, check};
 use dz_diff::State;
 use dz_engine::decompose;
+use dz_move::System;
 use dz_poly::Book;
 use dz_sample::{Summary, sample_ranking, sample_system, write_summary};
-use dz_tree::{System, Tree, Verdict, chains, check};
+use dz_tree::Tree;
 use std::alloc::{AllocError, Global};
 
 /// The budget with which the system is decomposed.

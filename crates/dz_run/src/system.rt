@@ -10,9 +10,9 @@ ghost use Rattle.dz_run.specs.System.{group_name, items_answer, numbered, questi
 ghost use Rattle.dz_run.specs.System.{refused_line, system_answer};
 
 use dz_form::{expand, limit_word};
+use dz_move::System;
 use dz_poly::{Book, Limit, Poly, PolyStop};
 use dz_syntax::{Item, SystemTree};
-use dz_tree::System;
 use itoa::Buffer;
 use std::alloc::{AllocError, AllocFailed, Global};
 

@@ -15,8 +15,8 @@ use Rattle.dz_sample.specs.Ranking.{sample_ranking}
 use Rattle.dz_sample.specs.Sample.{sample}
 use Rattle.dz_sample.specs.System.{sampled_system}
 use Rattle.dz_sample.specs.declared.equations.SampleEquation.{SampleEquation}
-use Rattle.dz_tree.specs.Root.{System}
-use Rattle.dz_tree.specs.Systems.{SystemValue, system_in, system_limit}
+use Rattle.dz_move.specs.Root.{System}
+use Rattle.dz_move.specs.Systems.{SystemValue, system_in, system_limit}
 use Rattle.dz_sample.proofs.Lengths.{rest_length, sample_length}
 
 few_terms : (cmp : Symbol → Symbol → Ordering) (es : List SampleEquation) → terms_of (map (equation_polynomial cmp) es) ≤ 2 * length es

@@ -4,7 +4,7 @@ use Rattle.dz_rank.specs.Rankings.{ranking_cmp}
 use Rattle.dz_sample.specs.Equations.{equation_polynomial}
 use Rattle.dz_sample.specs.Ranking.{sample_ranking}
 use Rattle.dz_sample.specs.Sample.{sample}
-use Rattle.dz_tree.specs.Root.{System}
+use Rattle.dz_move.specs.Root.{System}
 
 -- the polynomials of the equations that a seed and a size make, and no inequation
 unfoldable pub sampled_system : ℕ → ℕ → System

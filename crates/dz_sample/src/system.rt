@@ -6,12 +6,12 @@ ghost use Rattle.dz_rank.specs.Rankings.{ranking_cmp};
 ghost use Rattle.dz_sample.specs.Equations.{IsEquationOf, equation_polynomial};
 ghost use Rattle.dz_sample.specs.Ranking.{sample_ranking};
 ghost use Rattle.dz_sample.specs.System.{sampled_system};
-ghost use Rattle.dz_tree.specs.Systems.{IsSystemIn, system_in};
+ghost use Rattle.dz_move.specs.Systems.{IsSystemIn, system_in};
 
 use crate::equations::{SampleEquation, sample_equations};
 use crate::polynomials::equation_poly;
+use dz_move::System;
 use dz_poly::{Book, Poly, PolyStop};
-use dz_tree::System;
 use std::alloc::{AllocError, Global};
 
 /// The polynomials of equations.

@@ -19,8 +19,8 @@ use Rattle.dz_step.specs.Multiples.{has_proper_derivative, is_enough_by, is_prop
 use Rattle.dz_step.specs.FullRun.{derivatives_of}
 use Rattle.dz_step.specs.declared.Which.TheVariants.{Initial, Separant}
 use Rattle.dz_step.specs.Step.{is_allowed, multiplier_answer, permitted_if, step_degree}
-use Rattle.dz_tree.specs.declared.Rule.{Rule}
-use Rattle.dz_tree.specs.declared.Rule.TheVariants as rules
+use Rattle.dz_move.specs.declared.Rule.{Rule}
+use Rattle.dz_move.specs.declared.Rule.TheVariants as rules
 use Rattle.dz_tree.specs.Chain.{has_permitted, is_free_of, is_reduced, is_reducible, passes, separant_fits}
 use Rattle.dz_tree.specs.ChainParts.{allowed_if, multiplier_rule, multipliers}
 

@@ -13,14 +13,14 @@ use Rattle.dz_diff.specs.State.{State, at_place}
 use Rattle.dz_diff.specs.Tests.{Polynomials}
 use Rattle.dz_diff.proofs.Answers.{both}
 use Rattle.dz_pair.specs.Pair.{critical_pairs}
-use Rattle.dz_tree.specs.declared.lines.Line.{Line as ProgramLine}
-use Rattle.dz_tree.specs.declared.Rule.{Rule}
-use Rattle.dz_tree.specs.declared.Rule.TheVariants as rules
-use Rattle.dz_tree.specs.Chain.{Evidence, chain_rule, has_leaders, has_permitted, is_autoreduced, is_reduced, same_pairs, separant_fits}
+use Rattle.dz_move.specs.declared.lines.Line.{Line as ProgramLine}
+use Rattle.dz_move.specs.declared.Rule.{Rule}
+use Rattle.dz_move.specs.declared.Rule.TheVariants as rules
+use Rattle.dz_tree.specs.Chain.{chain_rule, has_leaders, has_permitted, is_autoreduced, is_reduced, same_pairs, separant_fits}
 use Rattle.dz_tree.specs.ChainParts.{IsForPair, failed, multiplier_rule}
 use Rattle.dz_tree.specs.EvidenceLines.{evidence_of, is_pair_line}
-use Rattle.dz_tree.specs.Lines.{Line, act, closed, chain, pair, spent, spent_pairs, open_wide, open_separant, open_large}
-use Rattle.dz_tree.specs.TreeLines.{line_of}
+use Rattle.dz_move.specs.Lines.{Evidence, Line, act, closed, chain, pair, spent, spent_pairs, open_wide, open_separant, open_large}
+use Rattle.dz_move.specs.TreeLines.{line_of}
 use Rattle.dz_tree.proofs.CriticalPairs.{NamesPair, critical_pairs_name}
 
 -- ---- lines of evidence

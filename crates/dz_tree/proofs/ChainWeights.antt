@@ -12,15 +12,15 @@ use Rattle.dz_diff.specs.State.{State}
 use Rattle.dz_diff.proofs.Answers.{both}
 use Rattle.dz_tree.specs.declared.entry_fault.EntryFault.{EntryFault}
 use Rattle.dz_tree.specs.declared.entry_fault.EntryFault.TheVariants as faults
-use Rattle.dz_tree.specs.declared.lines.Line.{Line as ProgramLine}
-use Rattle.dz_tree.specs.declared.Rule.{Rule}
-use Rattle.dz_tree.specs.declared.Rule.TheVariants as rules
-use Rattle.dz_tree.specs.Chain.{Evidence, chain_rule, chain_weight, evidence_from, evidence_weight}
+use Rattle.dz_move.specs.declared.lines.Line.{Line as ProgramLine}
+use Rattle.dz_move.specs.declared.Rule.{Rule}
+use Rattle.dz_move.specs.declared.Rule.TheVariants as rules
+use Rattle.dz_tree.specs.Chain.{chain_rule, chain_weight, evidence_from, evidence_weight}
 use Rattle.dz_tree.specs.ChainParts.{IsRunWeight, failed, is_within}
 use Rattle.dz_tree.specs.Entering.{IsEntryFault, broken_rule, rule_in}
 use Rattle.dz_tree.specs.EvidenceLines.{evidence_of, is_pair_line}
-use Rattle.dz_tree.specs.Lines.{Line, pair}
-use Rattle.dz_tree.specs.TreeLines.{line_of}
+use Rattle.dz_move.specs.Lines.{Evidence, Line, pair}
+use Rattle.dz_move.specs.TreeLines.{line_of}
 use Rattle.dz_tree.proofs.ChainRules.{IsHere, pair_is}
 
 -- ---- places of lists

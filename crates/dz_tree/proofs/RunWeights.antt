@@ -20,18 +20,19 @@ use Rattle.dz_step.specs.Run.{Ran, run}
 use Rattle.dz_step.specs.Step.{Stop}
 use Rattle.dz_pair.specs.Pair.{common, delta_answer, is_pair}
 use Rattle.dz_tree.specs.declared.entry_fault.EntryFault.TheVariants as faults
-use Rattle.dz_tree.specs.declared.fault.ActionStop.{ActionStop}
-use Rattle.dz_tree.specs.declared.Rule.{Rule}
-use Rattle.dz_tree.specs.declared.Rule.TheVariants as rules
-use Rattle.dz_tree.specs.Actions.{IsActionStop, move_fault, stop_in}
-use Rattle.dz_tree.specs.Chain.{Evidence, evidence_weight, is_below, passes}
+use Rattle.dz_move.specs.declared.fault.ActionStop.{ActionStop}
+use Rattle.dz_move.specs.declared.Rule.{Rule}
+use Rattle.dz_move.specs.declared.Rule.TheVariants as rules
+use Rattle.dz_move.specs.Actions.{IsActionStop, move_fault, stop_in}
+use Rattle.dz_move.specs.Lines.{Evidence}
+use Rattle.dz_tree.specs.Chain.{evidence_weight, is_below, passes}
 use Rattle.dz_tree.specs.ChainParts.{IsForPair}
 use Rattle.dz_tree.specs.Entering.{IsEntryFault, entry_fault, rule_in}
-use Rattle.dz_tree.specs.Fault.{Fault, refusal, rule, rule_of, rule_of_refusal, run_fault}
+use Rattle.dz_move.specs.Fault.{Fault, refusal, rule, rule_of, rule_of_refusal, run_fault}
 use Rattle.dz_step.specs.StepOperators.{DeriveAlong}
-use Rattle.dz_tree.specs.Parts.{DeltaRun, delta_run}
+use Rattle.dz_move.specs.Parts.{DeltaRun, delta_run}
 use Rattle.dz_tree.proofs.LowRuns.{coherent}
-use Rattle.dz_tree.proofs.RootFacts.{all_over}
+use Rattle.dz_move.proofs.RootFacts.{all_over}
 
 -- the fault of a rule that fails at a line
 pub fault_is : (line : ℕ) (f : Fault) → entry_fault line (move_fault f) ≡ faults.Rule line (rule_of f)

@@ -1,8 +1,7 @@
 -- The entries of lines that form one tree have these lines.
 use Rattle.std.proofs.Common.{◌≡◌, ◌∙◌, true, List, [], ◌∷◌, ◌++◌, map, refl, sym, ap, append-nil}
 use Rattle.std.proofs.lemmas.List.{append_assoc}
-use Rattle.dz_tree.specs.Chain.{Evidence}
-use Rattle.dz_tree.specs.Lines.{Line, act, closed, chain, pair, spent, spent_pairs, open_wide, open_separant, open_large, Entry, with_line, grouped, entries_of, lines_of, lines_of_entry}
+use Rattle.dz_move.specs.Lines.{Evidence, Line, act, closed, chain, pair, spent, spent_pairs, open_wide, open_separant, open_large, Entry, with_line, grouped, entries_of, lines_of, lines_of_entry}
 use Rattle.dz_tree.specs.Forms.{Node, end, move, fork, lines_in, is_end_with, IsOrdered, FormTree}
 
 -- evidence that follows a line is that of its entry

@@ -10,13 +10,12 @@ use Rattle.dz_diff.specs.Lists.{AllOf}
 use Rattle.dz_diff.proofs.Answers.{both}
 use Rattle.dz_tree.specs.declared.forming.Expected.{Expected}
 use Rattle.dz_tree.specs.declared.forming.Expected.TheVariants.{NoPair, AnyLine, SomePair}
-use Rattle.dz_tree.specs.Moves.{Action, is_fork}
-use Rattle.dz_tree.specs.Chain.{Evidence}
-use Rattle.dz_tree.specs.Reasons.{is_empty}
-use Rattle.dz_tree.specs.Lines.{Line, act, closed, chain, pair, spent, spent_pairs, open_wide, open_separant, open_large}
+use Rattle.dz_move.specs.Moves.{Action, is_fork}
+use Rattle.dz_tree.specs.Forms.{is_empty}
+use Rattle.dz_move.specs.Lines.{Evidence, Line, act, closed, chain, pair, spent, spent_pairs, open_wide, open_separant, open_large}
 use Rattle.dz_tree.specs.Forms.{is_spelled, Node, end, move, fork, lines_in, is_end_with, IsOrdered, FormTree}
-use Rattle.dz_tree.specs.declared.lines.Line.{Line as ProgramLine}
-use Rattle.dz_tree.specs.TreeLines.{line_of}
+use Rattle.dz_move.specs.declared.lines.Line.{Line as ProgramLine}
+use Rattle.dz_move.specs.TreeLines.{line_of}
 use Rattle.dz_tree.specs.Counting.{lets_pair, lets_line, expected_after, may_stand, left_after, form_trees}
 
 and_is : (a b : Bool) → a ≡ true → b ≡ true → (a && b) ≡ true

@@ -4,8 +4,8 @@ use Rattle.std.specs.List.{AllByRecursion}
 use Rattle.dz_rank.specs.Symbols.{BelongsTo, IsOperatorOf}
 use Rattle.dz_rank.specs.declared.rankings.Signature.{Signature}
 use Rattle.dz_step.specs.declared.Step.{Step}
-use Rattle.dz_tree.specs.Moves.{Action, reduce, weed, add, divide, split, factor}
-use Rattle.dz_tree.specs.Lines.{Line, act, closed, chain, pair, spent, spent_pairs, open_wide, open_separant, open_large}
+use Rattle.dz_move.specs.Moves.{Action, reduce, weed, add, divide, split, factor}
+use Rattle.dz_move.specs.Lines.{Line, act, closed, chain, pair, spent, spent_pairs, open_wide, open_separant, open_large}
 
 -- a step by one of the places up to 65,535, with an operator of the signature
 pub record IsStepOf (g : Signature) (s : Step) : Type 0 where

@@ -21,15 +21,10 @@ use Rattle.dz_step.specs.Step.{multiplier_answer, permitted_if, step_degree}
 use Rattle.dz_step.specs.Run.{run}
 use Rattle.dz_step.specs.FullRun.{derivatives_of}
 use Rattle.dz_pair.specs.Pair.{common, delta_answer, critical_pairs}
-use Rattle.dz_tree.specs.declared.Rule.{Rule}
-use Rattle.dz_tree.specs.declared.Rule.TheVariants as rules
-use Rattle.dz_tree.specs.Fault.{rule_of, rule_of_refusal, run_fault}
-
--- a pair of places with a run from its Delta-polynomial
-pub record Evidence : Type 0 where
-  pub first : ℕ
-  pub second : ℕ
-  pub steps : List Step
+use Rattle.dz_move.specs.declared.Rule.{Rule}
+use Rattle.dz_move.specs.declared.Rule.TheVariants as rules
+use Rattle.dz_move.specs.Lines.{Evidence}
+use Rattle.dz_move.specs.Fault.{rule_of, rule_of_refusal, run_fault}
 
 -- there is something, and it passes a test
 abbrev pub passes : {A : Type 0} → (A → Bool) → Option A → Bool

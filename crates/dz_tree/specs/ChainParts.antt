@@ -9,9 +9,10 @@ use Rattle.dz_diff.specs.State.{State, at_place}
 use Rattle.dz_diff.specs.Tests.{Polynomials}
 use Rattle.dz_step.specs.Step.{is_allowed}
 use Rattle.dz_pair.specs.Pair.{is_pair}
-use Rattle.dz_tree.specs.declared.Rule.{Rule}
-use Rattle.dz_tree.specs.declared.Rule.TheVariants as rules
-use Rattle.dz_tree.specs.Chain.{Evidence, has_permitted, separant_fits}
+use Rattle.dz_move.specs.declared.Rule.{Rule}
+use Rattle.dz_move.specs.declared.Rule.TheVariants as rules
+use Rattle.dz_move.specs.Lines.{Evidence}
+use Rattle.dz_tree.specs.Chain.{has_permitted, separant_fits}
 
 -- the rule that an answer tells, where it is none
 abbrev pub failed : {A : Type 0} → Result A Rule → Option Rule

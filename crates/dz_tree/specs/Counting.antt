@@ -2,8 +2,8 @@
 use Rattle.std.specs.Prelude.{ℕ, ◌+◌, ◌-◌, ◌==◌, nat_lt, Bool, true, false, ◌&&◌, cond, List, [], ◌∷◌}
 use Rattle.dz_tree.specs.declared.forming.Expected.{Expected}
 use Rattle.dz_tree.specs.declared.forming.Expected.TheVariants.{NoPair, AnyLine, SomePair}
-use Rattle.dz_tree.specs.Moves.{is_fork}
-use Rattle.dz_tree.specs.Lines.{Line, act, chain, pair, spent_pairs}
+use Rattle.dz_move.specs.Moves.{is_fork}
+use Rattle.dz_move.specs.Lines.{Line, act, chain, pair, spent_pairs}
 use Rattle.dz_tree.specs.Forms.{is_spelled}
 
 -- evidence may stand next

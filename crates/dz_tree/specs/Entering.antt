@@ -1,9 +1,9 @@
 -- Why an entry does not hold, as calls tell it.
 use Rattle.std.specs.Prelude.{◌≡◌, ◌⊎◌, ℕ, Option, Some, None, Result, Ok, Err}
-use Rattle.dz_tree.specs.declared.Rule.{Rule as TreeRule}
-use Rattle.dz_tree.specs.declared.Rule.TheVariants as rules
-use Rattle.dz_tree.specs.declared.fault.MoveFault.{MoveFault}
-use Rattle.dz_tree.specs.declared.fault.MoveFault.TheVariants as moves
+use Rattle.dz_move.specs.declared.Rule.{Rule as TreeRule}
+use Rattle.dz_move.specs.declared.Rule.TheVariants as rules
+use Rattle.dz_move.specs.declared.fault.MoveFault.{MoveFault}
+use Rattle.dz_move.specs.declared.fault.MoveFault.TheVariants as moves
 use Rattle.dz_tree.specs.declared.entry_fault.EntryFault.{EntryFault}
 use Rattle.dz_tree.specs.declared.entry_fault.EntryFault.TheVariants.{Memory, Rule}
 

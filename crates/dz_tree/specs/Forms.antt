@@ -1,15 +1,13 @@
 -- Lines that form one tree, each of which can be spelled (this project).
-use Rattle.std.specs.Prelude.{◌≡◌, ◌≤◌, ℕ, nat_lt, nat_le, sum, Bool, true, false, not, ◌&&◌, List, ◌∷◌, ◌++◌}
+use Rattle.std.specs.Prelude.{◌≡◌, ◌≤◌, ℕ, nat_lt, nat_le, sum, Bool, true, false, not, ◌&&◌, List, [], ◌∷◌, ◌++◌}
 use Rattle.std.specs.List.{list_all}
 use Rattle.dz_rank.specs.declared.symbols.Operator.{Operator}
 use Rattle.dz_rank.specs.declared.symbols.Symbol.{Symbol}
 use Rattle.dz_rank.specs.declared.symbols.Symbol.TheVariants.{Independent, Derivative}
 use Rattle.dz_step.specs.declared.Step.{Step}
-use Rattle.dz_tree.specs.Moves.{Action, reduce, weed, add, divide, split, factor, is_fork}
-use Rattle.dz_tree.specs.Chain.{Evidence}
-use Rattle.dz_tree.specs.Reasons.{is_empty}
-use Rattle.dz_tree.specs.Lines.{Line, act, closed, chain, pair, spent, spent_pairs, open_wide, open_separant, open_large, lines_of_entry}
-use Rattle.dz_tree.specs.Walk.{Tree}
+use Rattle.dz_move.specs.Moves.{Action, reduce, weed, add, divide, split, factor, is_fork}
+use Rattle.dz_move.specs.Lines.{Evidence, Line, act, closed, chain, pair, spent, spent_pairs, open_wide, open_separant, open_large, lines_of_entry}
+use Rattle.dz_tree.specs.Trees.{Tree}
 
 -- ---- lines that can be spelled, whatever the names are
 -- places count from 1
@@ -28,6 +26,11 @@ is_spelled_symbol (Derivative u t) = nat_lt u 16 && is_spelled_operator t
 -- a step
 abbrev pub is_spelled_step : Step → Bool
 is_spelled_step st = is_place st.place && is_spelled_operator st.operator
+
+-- there is none
+abbrev pub is_empty : {A : Type 0} → List A → Bool
+is_empty [] = true
+is_empty (x ∷ xs) = false
 
 -- an action; a reduce and a weed have at least one step
 abbrev pub is_spelled_action : Action → Bool

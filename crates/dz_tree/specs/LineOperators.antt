@@ -3,8 +3,8 @@ use Rattle.std.specs.Prelude.{ℕ, List, []}
 use Rattle.dz_step.specs.declared.Step.{Step}
 use Rattle.dz_diff.specs.Lists.{AllOf}
 use Rattle.dz_step.specs.StepOperators.{DeriveAlong}
-use Rattle.dz_tree.specs.Moves.{steps_of}
-use Rattle.dz_tree.specs.Lines.{Line, act, pair, spent, open_wide, open_large}
+use Rattle.dz_move.specs.Moves.{steps_of}
+use Rattle.dz_move.specs.Lines.{Line, act, pair, spent, open_wide, open_large}
 
 -- the steps that a line writes
 abbrev pub steps_in : Line → List Step

@@ -4,19 +4,18 @@ ghost use Rattle.std.specs.Prelude.{◌≡◌, ◌==◌, ◌&&◌, true, map, If
 ghost use Rattle.std.specs.List.{list_all};
 ghost use Rattle.dz_diff.specs.Operations.{setting_of};
 ghost use Rattle.dz_diff.specs.States.{StandsIn, state_in};
-ghost use Rattle.dz_tree.specs.Chain.{Evidence, chain_rule, same_pairs};
+ghost use Rattle.dz_tree.specs.Chain.{chain_rule, same_pairs};
 ghost use Rattle.dz_tree.specs.ChainParts.{failed};
 ghost use Rattle.dz_tree.specs.EvidenceLines.{evidence_of, is_pair_line};
-ghost use Rattle.dz_tree.specs.Lines.{pair};
-ghost use Rattle.dz_tree.specs.TreeLines.{line_of};
+ghost use Rattle.dz_move.specs.Lines.{Evidence, pair};
+ghost use Rattle.dz_move.specs.TreeLines.{line_of};
 
-use crate::Rule;
 use crate::autoreduced::is_autoreduced;
 use crate::chain_multipliers::multiplier_rule;
 use crate::inequations::are_reduced;
 use crate::leaders::has_leaders;
-use crate::lines::Line;
 use dz_diff::State;
+use dz_move::{Line, Rule};
 use dz_pair::pairs;
 use dz_poly::Book;
 use std::alloc::AllocError;

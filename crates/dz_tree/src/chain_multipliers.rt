@@ -8,8 +8,8 @@ ghost use Rattle.dz_terms.specs.Ranked.{symbols_under};
 ghost use Rattle.dz_diff.specs.States.{StandsIn, state_in};
 ghost use Rattle.dz_tree.specs.ChainParts.{allowed_if, multiplier_rule, multipliers};
 
-use crate::Rule;
 use dz_diff::{State, leader_of};
+use dz_move::Rule;
 use dz_poly::{Book, PolyStop};
 use dz_rank::Symbol;
 use dz_step::{Role, Which, is_granted, may_multiply, multiplier};

@@ -8,13 +8,12 @@ ghost use Rattle.dz_tree.specs.Chain.{chain_weight};
 ghost use Rattle.dz_tree.specs.Entering.{broken_rule};
 ghost use Rattle.dz_tree.specs.EvidenceLines.{evidence_of, is_pair_line};
 ghost use Rattle.dz_tree.specs.LineOperators.{HaveOperatorsOf};
-ghost use Rattle.dz_tree.specs.TreeLines.{line_of};
+ghost use Rattle.dz_move.specs.TreeLines.{line_of};
 
-use crate::Rule;
 use crate::entry_fault::EntryFault;
 use crate::evidence::weight_within;
-use crate::lines::Line;
 use dz_diff::State;
+use dz_move::{Line, Rule};
 use dz_poly::Book;
 use std::alloc::{AllocError, Global};
 

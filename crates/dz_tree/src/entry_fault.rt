@@ -1,12 +1,12 @@
 //! Why an entry of a tree does not hold.
 
-use crate::Rule;
+use dz_move::Rule;
 use std::alloc::AllocError;
 
 /// Why an entry does not hold, with the number of its line in the entry (0 is the line itself, its
 /// evidence follows).
 #[derive(Clone, Copy, Debug, PartialEq, Eq)]
-pub(crate) enum EntryFault {
+pub enum EntryFault {
     Memory,
     /// This rule fails at this line.
     Rule { line: usize, rule: Rule },

@@ -7,27 +7,24 @@ ghost use Rattle.dz_diff.specs.Lists.{AllOf};
 ghost use Rattle.dz_diff.specs.Operations.{setting_of};
 ghost use Rattle.dz_diff.specs.Outcome.{numbered};
 ghost use Rattle.dz_diff.specs.States.{StandsIn, state_in};
-ghost use Rattle.dz_tree.specs.Chain.{Evidence, chain_weight, evidence_from, evidence_weight};
+ghost use Rattle.dz_tree.specs.Chain.{chain_weight, evidence_from, evidence_weight};
 ghost use Rattle.dz_tree.specs.ChainParts.{IsForPair, IsRunWeight, is_within};
 ghost use Rattle.dz_tree.specs.Entering.{IsEntryFault, entry_fault};
 ghost use Rattle.dz_tree.specs.EvidenceLines.{evidence_of, is_pair_line};
 ghost use Rattle.dz_step.specs.StepOperators.{DeriveAlong};
 ghost use Rattle.dz_tree.specs.LineOperators.{HaveOperatorsOf, steps_in};
-ghost use Rattle.dz_tree.specs.Lines.{pair};
-ghost use Rattle.dz_tree.specs.TreeLines.{line_of};
+ghost use Rattle.dz_move.specs.Lines.{Evidence, pair};
+ghost use Rattle.dz_move.specs.TreeLines.{line_of};
 
-use crate::Rule;
 use crate::chain_conditions::chain_conditions;
 use crate::entry_fault::EntryFault;
-use crate::fault::{ActionStop, MoveFault};
-use crate::lines::Line;
-use crate::pair_runs::{ActionEnd, pair_run};
 use dz_diff::State;
+use dz_move::{ActionEnd, ActionStop, Line, MoveFault, Rule, pair_run};
 use dz_poly::Book;
 use dz_step::{StepList, member_at};
 
 /// The stop of a run as the fault of a line.
-pub(crate) fn fault_at(line: usize, stop: ActionStop) -> EntryFault
+pub fn fault_at(line: usize, stop: ActionStop) -> EntryFault
     ensures { result ≡ entry_fault line stop.fault }
 {
     match stop.fault {
@@ -169,7 +166,7 @@ pub(crate) fn weight_within(
 }
 
 /// The weight of a chain's evidence, where with that of the lines before it is within the budget.
-pub(crate) fn chain_weight(
+pub fn chain_weight(
     book: &Book,
     state: &State,
     evidence: &[Line],

@@ -4,10 +4,10 @@ ghost use Rattle.std.specs.Prelude.{◌↔◌, IsTrue, map};
 ghost use Rattle.dz_rank.specs.Symbols.{IsOperatorOf};
 ghost use Rattle.dz_step.specs.StepOperators.{DeriveAlong};
 ghost use Rattle.dz_tree.specs.LineOperators.{HaveOperatorsOf, steps_in};
-ghost use Rattle.dz_tree.specs.Moves.{steps_of};
-ghost use Rattle.dz_tree.specs.TreeLines.{action_of, line_of};
+ghost use Rattle.dz_move.specs.Moves.{steps_of};
+ghost use Rattle.dz_move.specs.TreeLines.{action_of, line_of};
 
-use crate::lines::{Line, Next};
+use dz_move::{Line, Next};
 use dz_rank::Operator;
 use dz_step::StepList;
 

@@ -7,13 +7,14 @@ ghost use Rattle.dz_terms.specs.Ranked.{symbols_under};
 ghost use Rattle.dz_diff.specs.States.{IsStateOf, StandsIn, state_in};
 ghost use Rattle.dz_tree.specs.EvidenceLines.{is_pair_line};
 ghost use Rattle.dz_tree.specs.LineOperators.{HaveOperatorsOf};
-ghost use Rattle.dz_tree.specs.Lines.{is_fork_line, is_move_line};
-ghost use Rattle.dz_tree.specs.Systems.{IsSystemIn};
-ghost use Rattle.dz_tree.specs.TreeLines.{line_of};
+ghost use Rattle.dz_move.specs.Lines.{is_fork_line, is_move_line};
+ghost use Rattle.dz_move.specs.Systems.{IsSystemIn};
+ghost use Rattle.dz_move.specs.TreeLines.{line_of};
 
 use dz_diff::State;
+use dz_move::{Line, MoveFault, Rule, System, advance, branches, root};
 use dz_poly::{Book, Limit};
-use dz_tree::{Line, MoveFault, Rule, System, Tree, advance, branches, is_chain, root};
+use dz_tree::{Tree, is_chain};
 use std::alloc::{AllocError, Global};
 
 /// What a move, a fork or a chain is told at the root, where no budget is looked at.

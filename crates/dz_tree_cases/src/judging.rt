@@ -4,18 +4,20 @@ ghost use Rattle.std.specs.Prelude.{◌≡◌};
 ghost use Rattle.dz_rank.specs.Rankings.{IsRanking};
 ghost use Rattle.dz_diff.specs.Operations.{setting_of};
 ghost use Rattle.dz_syntax.specs.Systems.{HasExpressions, tree_of};
-ghost use Rattle.dz_tree.specs.Systems.{IsSystemIn, system_in};
-ghost use Rattle.dz_tree.specs.TreeLines.{verdict_as};
-ghost use Rattle.dz_tree.specs.Walk.{verdict_of};
+ghost use Rattle.dz_move.specs.Systems.{IsSystemIn, system_in};
+ghost use Rattle.dz_check.specs.Verdicts.{verdict_as};
+ghost use Rattle.dz_check.specs.Walk.{verdict_of};
 
 use crate::alone::{Alone, told_alone};
 use crate::lines::lines;
 use crate::working::{Working, told_working};
 use dz_case::{CaseStop, book_for, number, read_case, split_at_first, system_of};
+use dz_check::laws::trees_are_judged_by_line;
+use dz_check::{Verdict, chains, check};
+use dz_move::System;
 use dz_poly::Book;
 use dz_syntax::{Form, SystemTree};
-use dz_tree::laws::trees_are_judged_by_line;
-use dz_tree::{System, Tree, Verdict, chains, check, have_operators_of};
+use dz_tree::{Tree, have_operators_of};
 use std::alloc::{AllocError, Global};
 
 /// What is told of a case.

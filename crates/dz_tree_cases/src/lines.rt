@@ -2,10 +2,10 @@
 
 use dz_case::{place, split_at_first};
 use dz_form::{read_operator, read_symbol};
+use dz_move::{Line, Next};
 use dz_poly::Limit;
 use dz_step::{Step, StepList, Which};
 use dz_syntax::Names;
-use dz_tree::{Line, Next};
 use std::alloc::{AllocError, Global};
 
 /// A step, as a place and an operator.

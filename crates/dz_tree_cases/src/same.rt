@@ -1,7 +1,7 @@
 //! Whether lines are the same.
 
+use dz_move::{Line, Next};
 use dz_step::StepList;
-use dz_tree::{Line, Next};
 
 /// Whether two runs have the same steps.
 fn same_runs(run: &StepList, other: &StepList) -> bool {

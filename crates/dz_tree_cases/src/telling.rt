@@ -4,8 +4,8 @@ use crate::alone::Alone;
 use crate::judging::{Judgement, judge};
 use crate::working::Working;
 use dz_case::{CaseStop, cases_of, rule_name};
+use dz_check::Verdict;
 use dz_form::limit_word;
-use dz_tree::Verdict;
 use itoa::Buffer;
 use std::alloc::{AllocError, Global};
 

@@ -2,12 +2,13 @@
 
 ghost use Rattle.std.specs.Prelude.{◌≡◌};
 ghost use Rattle.dz_poly.specs.Books.{IsKept};
-ghost use Rattle.dz_tree.specs.Systems.{IsSystemIn};
+ghost use Rattle.dz_move.specs.Systems.{IsSystemIn};
 
 use crate::same::first_other;
 use dz_engine::{decompose, next_line};
+use dz_move::{System, root};
 use dz_poly::Book;
-use dz_tree::{System, Tree, root};
+use dz_tree::Tree;
 use std::alloc::{AllocError, Global};
 
 /// What is told where a tree is compared with the worked one.

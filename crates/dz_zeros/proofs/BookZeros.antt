@@ -9,10 +9,11 @@ use Rattle.dz_diff.specs.Operations.{setting_of}
 use Rattle.dz_diff.specs.Over.{AreOver}
 use Rattle.dz_diff.specs.States.{LiveAll, StandsIn, StateValue, polynomials, state_in}
 use Rattle.dz_domain.proofs.PointValues.{keepable}
-use Rattle.dz_tree.specs.Certified.{IsCertified}
-use Rattle.dz_tree.specs.Systems.{IsSystemIn, SystemValue, system_in}
-use Rattle.dz_tree.specs.Walk.{Tree, ends_in, ends_of}
-use Rattle.dz_tree.proofs.RootFacts.{all_over}
+use Rattle.dz_check.specs.Certified.{IsCertified}
+use Rattle.dz_move.specs.Systems.{IsSystemIn, SystemValue, system_in}
+use Rattle.dz_tree.specs.Trees.{Tree}
+use Rattle.dz_check.specs.Walk.{ends_in, ends_of}
+use Rattle.dz_move.proofs.RootFacts.{all_over}
 use Rattle.dz_zeros.specs.Runs.{RunsToZero}
 use Rattle.dz_zeros.specs.Solves.{HasValueZero, Solves, SolvesState}
 use Rattle.dz_zeros.proofs.ZeroSetLaws.{zero_sets}

@@ -21,7 +21,7 @@ use Rattle.dz_step.specs.Step.{multiplier_answer, permitted_if}
 use Rattle.dz_step.proofs.TakenSteps.{good_multiplier}
 use Rattle.dz_tree.specs.Chain.{has_permitted, passes}
 use Rattle.dz_tree.specs.Chains.{IsChain}
-use Rattle.dz_tree.specs.Walk.{End, all_chains, chains_of, is_chain_end}
+use Rattle.dz_check.specs.Walk.{End, all_chains, chains_of, is_chain_end}
 use Rattle.dz_zeros.proofs.Meaning.{Meaning, Differs, collected}
 use Rattle.dz_zeros.proofs.Actions.{GoodState, Solution}
 use Rattle.dz_zeros.proofs.Steps.{allowed_nonzero}

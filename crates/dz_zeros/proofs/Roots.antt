@@ -9,11 +9,12 @@ use Rattle.dz_terms.proofs.SymbolLaws.{ranking_order}
 use Rattle.dz_diff.specs.Lists.{AllOf, SomeOf}
 use Rattle.dz_diff.specs.Tests.{is_unit, is_zero}
 use Rattle.dz_diff.specs.Operations.{setting_of}
-use Rattle.dz_tree.specs.Root.{System, root_of}
+use Rattle.dz_move.specs.Root.{System, root_of}
 use Rattle.dz_diff.proofs.Goodness.{Good, good_norm}
-use Rattle.dz_tree.proofs.KeptNorms.{kept_all, kept_back}
-use Rattle.dz_tree.specs.Lines.{entries_of}
-use Rattle.dz_tree.specs.Walk.{Tree, End, ends_of}
+use Rattle.dz_move.proofs.KeptNorms.{kept_all, kept_back}
+use Rattle.dz_move.specs.Lines.{entries_of}
+use Rattle.dz_tree.specs.Trees.{Tree}
+use Rattle.dz_check.specs.Walk.{End, ends_of}
 use Rattle.dz_zeros.proofs.Meaning.{Meaning, Vanishes, Differs, norm_vanishes, vanishes_norm, unit_nonzero}
 use Rattle.dz_zeros.proofs.Actions.{Solution, GoodState}
 use Rattle.dz_zeros.proofs.Walks.{GoodEnd, SolvedEnd, walk_same}

@@ -7,16 +7,16 @@ use Rattle.dz_diff.specs.Outcome.{◌>>=◌, needs, told_as}
 use Rattle.dz_diff.specs.Lists.{AllOf, SomeOf}
 use Rattle.dz_diff.specs.Operations.{setting_of}
 use Rattle.dz_diff.specs.State.{State}
-use Rattle.dz_tree.specs.Root.{is_closed}
+use Rattle.dz_move.specs.Root.{is_closed}
 use Rattle.dz_diff.proofs.Answers.{bind_ok, told_ok, then_ok, ok_same}
 use Rattle.dz_diff.proofs.Places.{all-append, some_left, some_right, some_parts}
-use Rattle.dz_tree.specs.declared.Rule.{Rule}
-use Rattle.dz_tree.specs.declared.Rule.TheVariants as rules
-use Rattle.dz_tree.specs.Moves.{perform}
-use Rattle.dz_tree.specs.Chain.{Evidence, chain_weight}
-use Rattle.dz_tree.specs.Lines.{Line, act, closed, chain, pair, spent, spent_pairs, open_wide, open_separant, open_large, Entry}
-use Rattle.dz_tree.specs.Reasons.{reason_holds}
-use Rattle.dz_tree.specs.Walk.{End, Below, nothing_below, ended, entered, told_at_line, walk}
+use Rattle.dz_move.specs.declared.Rule.{Rule}
+use Rattle.dz_move.specs.declared.Rule.TheVariants as rules
+use Rattle.dz_move.specs.Moves.{perform}
+use Rattle.dz_tree.specs.Chain.{chain_weight}
+use Rattle.dz_move.specs.Lines.{Evidence, Line, act, closed, chain, pair, spent, spent_pairs, open_wide, open_separant, open_large, Entry}
+use Rattle.dz_check.specs.Reasons.{reason_holds}
+use Rattle.dz_check.specs.Walk.{End, Below, nothing_below, ended, entered, told_at_line, walk}
 use Rattle.dz_zeros.proofs.Meaning.{Meaning}
 use Rattle.dz_zeros.proofs.Actions.{Solution, GoodState, perform_shares, closed_has_none}
 

@@ -22,7 +22,7 @@ use Rattle.dz_diff.specs.Lists.{AllOf, SomeOf}
 use Rattle.dz_diff.specs.Tests.{Polynomials}
 use Rattle.dz_diff.specs.Operations.{setting_of}
 use Rattle.dz_diff.specs.State.{State}
-use Rattle.dz_tree.specs.Root.{System, is_closed}
+use Rattle.dz_move.specs.Root.{System, is_closed}
 use Rattle.dz_diff.proofs.Answers.{both, is_false}
 use Rattle.dz_diff.specs.Over.{AreOver, IsOver}
 use Rattle.dz_diff.proofs.Overs.{all_good, good_over}
@@ -30,12 +30,13 @@ use Rattle.dz_diff.proofs.Goodness.{InRange}
 use Rattle.dz_step.specs.declared.Role.TheVariants.{Free}
 use Rattle.dz_step.specs.declared.Step.{Step}
 use Rattle.dz_step.specs.Run.{run}
-use Rattle.dz_tree.specs.declared.Rule.{Rule}
-use Rattle.dz_tree.specs.Certified.{IsCertified}
+use Rattle.dz_move.specs.declared.Rule.{Rule}
+use Rattle.dz_check.specs.Certified.{IsCertified}
 use Rattle.dz_tree.specs.Chains.{IsChain}
-use Rattle.dz_tree.specs.Walk.{Tree, End, all_chains, chains_of, ends_of, ends_in, is_chain_end}
-use Rattle.dz_tree.proofs.CertifiedChains.{chains_are}
-use Rattle.dz_tree.proofs.Certifying.{answer_certified}
+use Rattle.dz_tree.specs.Trees.{Tree}
+use Rattle.dz_check.specs.Walk.{End, all_chains, chains_of, ends_of, ends_in, is_chain_end}
+use Rattle.dz_check.proofs.CertifiedChains.{chains_are}
+use Rattle.dz_check.proofs.Certifying.{answer_certified}
 use Rattle.dz_zeros.specs.Laws.{ZeroSets}
 use Rattle.dz_zeros.specs.Runs.{RunsToZero}
 use Rattle.dz_zeros.specs.Solves.{HasValueZero, IsRegularAt, Solves, SolvesChain, SolvesState}

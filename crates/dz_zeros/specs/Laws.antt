@@ -9,13 +9,14 @@ use Rattle.dz_domain.specs.Point.{Coordinates}
 use Rattle.dz_diff.specs.Lists.{AllOf, SomeOf}
 use Rattle.dz_diff.specs.Operations.{setting_of}
 use Rattle.dz_diff.specs.State.{State}
-use Rattle.dz_tree.specs.Root.{System, is_closed}
+use Rattle.dz_move.specs.Root.{System, is_closed}
 use Rattle.dz_step.specs.declared.Role.TheVariants.{Free}
 use Rattle.dz_step.specs.declared.Step.{Step}
 use Rattle.dz_step.specs.Run.{run}
-use Rattle.dz_tree.specs.Certified.{IsCertified}
+use Rattle.dz_check.specs.Certified.{IsCertified}
 use Rattle.dz_tree.specs.Chains.{IsChain}
-use Rattle.dz_tree.specs.Walk.{Tree, all_chains, chains_of, ends_of, ends_in}
+use Rattle.dz_tree.specs.Trees.{Tree}
+use Rattle.dz_check.specs.Walk.{all_chains, chains_of, ends_of, ends_in}
 use Rattle.dz_diff.specs.Over.{AreOver, IsOver}
 use Rattle.dz_zeros.specs.Runs.{RunsToZero}
 use Rattle.dz_zeros.specs.Solves.{HasValueZero, Solves, SolvesChain, SolvesState}

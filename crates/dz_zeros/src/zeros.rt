@@ -7,16 +7,17 @@ ghost use Rattle.dz_domain.specs.Point.{FitsSignature};
 ghost use Rattle.dz_diff.specs.Lists.{SomeOf};
 ghost use Rattle.dz_diff.specs.Operations.{setting_of};
 ghost use Rattle.dz_diff.specs.States.{StandsIn, state_in};
-ghost use Rattle.dz_tree.specs.Certified.{IsCertified};
-ghost use Rattle.dz_tree.specs.Systems.{IsSystemIn, system_in};
-ghost use Rattle.dz_tree.specs.Walk.{ends_in, ends_of};
+ghost use Rattle.dz_check.specs.Certified.{IsCertified};
+ghost use Rattle.dz_move.specs.Systems.{IsSystemIn, system_in};
+ghost use Rattle.dz_check.specs.Walk.{ends_in, ends_of};
 ghost use Rattle.dz_zeros.specs.Runs.{RunsToZero};
 ghost use Rattle.dz_zeros.specs.Solves.{HasValueZero, Solves, SolvesState};
 
 use dz_diff::State;
 use dz_domain::{Domain, Point};
+use dz_move::System;
 use dz_poly::{Book, Poly};
-use dz_tree::{System, Tree};
+use dz_tree::Tree;
 
 /// The point solves a system exactly when it solves the state at some chain or open end of a
 /// certified tree for it.

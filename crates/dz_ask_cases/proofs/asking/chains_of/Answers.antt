@@ -1,7 +1,7 @@
 use Rattle.std.proofs.Common.{sym, subst}
 use Rattle.dz_diff.specs.Operations.{setting_of}
-use Rattle.dz_tree.specs.Certified.{IsCertified}
-use Rattle.dz_tree.specs.Systems.{system_in}
+use Rattle.dz_check.specs.Certified.{IsCertified}
+use Rattle.dz_move.specs.Systems.{system_in}
 use Rattle.dz_ask_cases.proofs.asking.chains_of.Goals as goal
 
 pub chains-requires-clause-certified : goal.chains-requires-clause-certified

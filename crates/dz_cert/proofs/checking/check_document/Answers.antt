@@ -1,7 +1,7 @@
 use Rattle.std.proofs.Common.{◌≡◌, ℕ, List, true, map}
 use Rattle.dz_diff.specs.Operations.{setting_of}
-use Rattle.dz_tree.proofs.MemberLists.{if_ok}
-use Rattle.dz_tree.specs.Systems.{system_in}
+use Rattle.dz_move.proofs.MemberLists.{if_ok}
+use Rattle.dz_move.specs.Systems.{system_in}
 use Rattle.dz_cert.specs.Documents.{IsDocument, document_of}
 use Rattle.dz_cert.specs.Readers.{texts_of}
 use Rattle.dz_cert.specs.Verdicts.{document_verdict, has_canonical_texts}

@@ -1,5 +1,5 @@
 use Rattle.dz_diff.specs.Operations.{setting_of}
-use Rattle.dz_tree.specs.Systems.{system_in}
+use Rattle.dz_move.specs.Systems.{system_in}
 use Rattle.dz_cert.proofs.CertifiedDocuments.{accepted_certified, partial_certified}
 use Rattle.dz_cert.proofs.checking.judged.Goals as goal
 

@@ -1,8 +1,8 @@
 use Rattle.std.proofs.Common.{◌≡◌, ◌∙◌, map, ap}
 use Rattle.dz_diff.specs.Operations.{setting_of}
 use Rattle.dz_diff.specs.States.{state_in}
-use Rattle.dz_tree.proofs.MemberLists.{if_ok}
-use Rattle.dz_tree.specs.Systems.{system_in}
+use Rattle.dz_move.proofs.MemberLists.{if_ok}
+use Rattle.dz_move.specs.Systems.{system_in}
 use Rattle.dz_cert.specs.Documents.{canonical_texts, chain_texts}
 use Rattle.dz_cert.specs.Readers.{texts_of}
 use Rattle.dz_cert.specs.Verdicts.{first_other}

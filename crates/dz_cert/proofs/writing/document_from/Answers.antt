@@ -1,8 +1,8 @@
 use Rattle.std.proofs.Common.{◌≡◌, ◌∙◌, map}
 use Rattle.dz_diff.specs.Operations.{setting_of}
 use Rattle.dz_diff.specs.States.{state_in}
-use Rattle.dz_tree.proofs.MemberLists.{if_ok}
-use Rattle.dz_tree.specs.Systems.{system_in}
+use Rattle.dz_move.proofs.MemberLists.{if_ok}
+use Rattle.dz_move.specs.Systems.{system_in}
 use Rattle.dz_cert.specs.Documents.{canonical_texts, document_of, document_text}
 use Rattle.dz_cert.proofs.WrittenLines.{states_document}
 use Rattle.dz_cert.proofs.writing.document_from.Goals as goal

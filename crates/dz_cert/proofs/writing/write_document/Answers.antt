@@ -1,7 +1,7 @@
 use Rattle.std.proofs.Common.{◌≡◌}
 use Rattle.dz_diff.specs.Operations.{setting_of}
-use Rattle.dz_tree.proofs.MemberLists.{if_ok}
-use Rattle.dz_tree.specs.Systems.{system_in}
+use Rattle.dz_move.proofs.MemberLists.{if_ok}
+use Rattle.dz_move.specs.Systems.{system_in}
 use Rattle.dz_cert.specs.Documents.{IsDocument, chain_texts, document_of}
 use Rattle.dz_cert.proofs.WrittenDocuments.{book_document}
 use Rattle.dz_cert.proofs.writing.write_document.Goals as goal

@@ -1,6 +1,6 @@
 use Rattle.std.proofs.Common.{subst}
 use Rattle.dz_step.specs.FullRun.{full_run}
-use Rattle.dz_tree.proofs.MemberLists.{if_ok}
+use Rattle.dz_move.proofs.MemberLists.{if_ok}
 use Rattle.dz_engine.specs.Finding.{role_in}
 use Rattle.dz_engine.specs.Naming.{IsCoursed}
 use Rattle.dz_engine.proofs.NamedLines.{known_named, wide_named}

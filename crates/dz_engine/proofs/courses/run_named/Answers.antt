@@ -3,7 +3,7 @@ use Rattle.dz_poly.specs.Books.{polynomial}
 use Rattle.dz_diff.specs.Operations.{setting_of}
 use Rattle.dz_diff.specs.States.{state_in}
 use Rattle.dz_step.proofs.BookPlaces.{lives_at}
-use Rattle.dz_tree.proofs.MemberLists.{if_ok}
+use Rattle.dz_move.proofs.MemberLists.{if_ok}
 use Rattle.dz_engine.specs.Finding.{role_in}
 use Rattle.dz_engine.specs.Naming.{members_of}
 use Rattle.dz_engine.proofs.NamedLines.{course_is, member_is, not_none}

@@ -3,8 +3,8 @@ use Rattle.std.specs.List.{AllByRecursion}
 use Rattle.dz_rank.specs.Rankings.{RankingValue}
 use Rattle.dz_diff.specs.Operations.{setting_of}
 use Rattle.dz_tree.specs.Belonging.{IsLineOf}
-use Rattle.dz_tree.specs.Systems.{system_in}
-use Rattle.dz_tree.specs.Walk.{Tree}
+use Rattle.dz_move.specs.Systems.{system_in}
+use Rattle.dz_tree.specs.Trees.{Tree}
 use Rattle.dz_engine.specs.Worked.{IsWorked}
 use Rattle.dz_engine.proofs.WorkedSystems.{worked_lines_belong, worked_system, worked_tree}
 use Rattle.dz_engine.proofs.decomposing.decompose.Goals as goal

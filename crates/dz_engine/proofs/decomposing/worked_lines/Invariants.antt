@@ -1,8 +1,8 @@
 use Rattle.std.proofs.Common.{◌≤◌, ◌+◌, ◌*◌, ◌-◌, length, map}
 use Rattle.dz_diff.specs.Operations.{setting_of}
 use Rattle.dz_diff.specs.States.{state_in}
-use Rattle.dz_tree.specs.Pending.{StackedIn, pending_states}
-use Rattle.dz_tree.specs.TreeLines.{line_of}
+use Rattle.dz_check.specs.Pending.{StackedIn, pending_states}
+use Rattle.dz_move.specs.TreeLines.{line_of}
 use Rattle.dz_engine.specs.Turning.{AreKnownOnTop, HasCome, stacked}
 use Rattle.dz_engine.proofs.decomposing.worked_lines.Given as goal
 

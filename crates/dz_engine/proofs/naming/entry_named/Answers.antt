@@ -2,8 +2,8 @@ use Rattle.std.proofs.Common.{◌≡◌, ◌≤◌, ◌∙◌, refl, subst, sym}
 use Rattle.dz_rank.specs.Rankings.{RankingValue}
 use Rattle.dz_diff.specs.Operations.{setting_of}
 use Rattle.dz_diff.specs.States.{state_in}
-use Rattle.dz_tree.specs.Lines.{Entry}
-use Rattle.dz_tree.proofs.MemberLists.{if_ok}
+use Rattle.dz_move.specs.Lines.{Entry}
+use Rattle.dz_move.proofs.MemberLists.{if_ok}
 use Rattle.dz_engine.specs.Naming.{IsFound, IsNamed, pairs_entry}
 use Rattle.dz_engine.specs.Order.{next_entry}
 use Rattle.dz_engine.specs.Resting.{EntryHolds}

@@ -7,7 +7,7 @@ use Rattle.dz_diff.specs.State.{at_place}
 use Rattle.dz_diff.specs.States.{state_in}
 use Rattle.dz_pair.specs.Pair.{delta_answer, is_pair}
 use Rattle.dz_step.proofs.BookPlaces.{lives_at}
-use Rattle.dz_tree.proofs.MemberLists.{if_ok}
+use Rattle.dz_move.proofs.MemberLists.{if_ok}
 use Rattle.dz_engine.proofs.NamedLines.{entry_at, nothing_at}
 use Rattle.dz_engine.proofs.PairWays.{delta_of_pair, large_delta, wide_delta}
 use Rattle.dz_engine.proofs.pairing.pair_course.Goals as goal

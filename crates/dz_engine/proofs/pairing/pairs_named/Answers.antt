@@ -2,7 +2,7 @@ use Rattle.std.proofs.Common.{subst, arith}
 use Rattle.dz_terms.specs.Ranked.{symbols_under}
 use Rattle.dz_diff.specs.Operations.{setting_of}
 use Rattle.dz_diff.specs.States.{state_in}
-use Rattle.dz_tree.proofs.MemberLists.{if_ok}
+use Rattle.dz_move.proofs.MemberLists.{if_ok}
 use Rattle.dz_engine.specs.Naming.{IsOnward}
 use Rattle.dz_engine.proofs.PairWays.{chain_onward, next_pair, pair_at}
 use Rattle.dz_engine.proofs.pairing.pairs_named.Goals as goal

@@ -1,6 +1,6 @@
 use Rattle.std.proofs.Common.{refl, subst, sym, arith}
-use Rattle.dz_tree.specs.Lines.{Entry}
-use Rattle.dz_tree.proofs.MemberLists.{if_ok}
+use Rattle.dz_move.specs.Lines.{Entry}
+use Rattle.dz_move.proofs.MemberLists.{if_ok}
 use Rattle.dz_engine.specs.Naming.{IsDone}
 use Rattle.dz_engine.proofs.NamedLines.{spent_is}
 use Rattle.dz_engine.proofs.working.done.Goals as goal

@@ -1,10 +1,10 @@
 use Rattle.std.proofs.Common.{subst}
 use Rattle.std.specs.Prelude.{MatchResult}
-use Rattle.dz_tree.specs.Actions.{IsMoveFault, IsPerformed}
-use Rattle.dz_tree.specs.Lines.{Entry}
-use Rattle.dz_tree.specs.Moves.{perform}
-use Rattle.dz_tree.specs.TreeLines.{action_of}
-use Rattle.dz_tree.proofs.MemberLists.{if_ok}
+use Rattle.dz_move.specs.Actions.{IsMoveFault, IsPerformed}
+use Rattle.dz_move.specs.Lines.{Entry}
+use Rattle.dz_move.specs.Moves.{perform}
+use Rattle.dz_move.specs.TreeLines.{action_of}
+use Rattle.dz_move.proofs.MemberLists.{if_ok}
 use Rattle.dz_engine.specs.Naming.{IsDone}
 use Rattle.dz_engine.proofs.working.told.Goals as goal
 

@@ -1,8 +1,8 @@
 use Rattle.std.proofs.Common.{subst, sym}
 use Rattle.dz_diff.specs.Operations.{setting_of}
 use Rattle.dz_diff.specs.States.{state_in}
-use Rattle.dz_tree.specs.Lines.{Entry}
-use Rattle.dz_tree.proofs.MemberLists.{if_ok}
+use Rattle.dz_move.specs.Lines.{Entry}
+use Rattle.dz_move.proofs.MemberLists.{if_ok}
 use Rattle.dz_engine.specs.Naming.{IsDone, IsNamed}
 use Rattle.dz_engine.specs.Order.{next_entry}
 use Rattle.dz_engine.proofs.KnownFacts.{known_by, on_ok}

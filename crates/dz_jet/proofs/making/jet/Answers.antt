@@ -1,7 +1,7 @@
 use Rattle.std.proofs.Common.{subst, ◌≤◌}
 use Rattle.dz_rank.specs.Rankings.{IsOrderly, RankingValue}
 use Rattle.dz_diff.specs.States.{state_in}
-use Rattle.dz_tree.proofs.RootFacts.{all_over}
+use Rattle.dz_move.proofs.RootFacts.{all_over}
 use Rattle.dz_jet.proofs.JetBelongs.{answer_over, answer_writable}
 use Rattle.dz_jet.proofs.JetLawProofs.{jet_agrees}
 use Rattle.dz_jet.proofs.making.jet.Goals as goal

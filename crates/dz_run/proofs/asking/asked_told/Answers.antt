@@ -2,9 +2,9 @@ use Rattle.std.proofs.Common.{◌≡◌, ◌∙◌, ap}
 use Rattle.dz_diff.specs.States.{polynomials}
 use Rattle.dz_rank.specs.Rankings.{RankingValue}
 use Rattle.dz_syntax.specs.Systems.{tree_of}
-use Rattle.dz_tree.proofs.MemberLists.{if_ok}
-use Rattle.dz_tree.specs.Root.{System}
-use Rattle.dz_tree.specs.Systems.{system_in}
+use Rattle.dz_move.proofs.MemberLists.{if_ok}
+use Rattle.dz_move.specs.Root.{System}
+use Rattle.dz_move.specs.Systems.{system_in}
 use Rattle.dz_run.specs.Answer.{answer_of, with_questions}
 use Rattle.dz_run.specs.Asked.{asked}
 use Rattle.dz_run.specs.System.{questions_answer, ranking_of, system_answer}

@@ -1,5 +1,5 @@
 use Rattle.std.proofs.Common.{◌≡◌, ◌∙◌, ap}
-use Rattle.dz_tree.specs.Systems.{system_in}
+use Rattle.dz_move.specs.Systems.{system_in}
 use Rattle.dz_run.specs.Asked.{report_ending}
 use Rattle.dz_run.specs.declared.ending.Ending.TheVariants.{Done}
 use Rattle.dz_run.proofs.AskedAnswers.{questions_are}

@@ -5,7 +5,7 @@ use Rattle.dz_diff.specs.State.{State}
 use Rattle.dz_diff.specs.States.{StandsIn, state_in}
 use Rattle.dz_series.specs.SeriesEnds.{ending_of}
 use Rattle.dz_series.specs.SeriesReports.{series_report}
-use Rattle.dz_tree.proofs.MemberLists.{if_ok}
+use Rattle.dz_move.proofs.MemberLists.{if_ok}
 use Rattle.dz_run.specs.Answer.{answer_of, continued, printed}
 use Rattle.dz_run.specs.Charted.{chain_answer, point_text, report_answer}
 use Rattle.dz_run.specs.declared.ending.Ending.TheVariants.{Done, Point}

@@ -1,7 +1,7 @@
 use Rattle.std.proofs.Common.{◌≡◌, ◌∙◌, ◌++◌, ap, sym, List, ℕ}
 use Rattle.dz_series.specs.SeriesEnds.{ending_of}
 use Rattle.dz_series.specs.SeriesReports.{refused}
-use Rattle.dz_tree.proofs.MemberLists.{if_ok}
+use Rattle.dz_move.proofs.MemberLists.{if_ok}
 use Rattle.dz_run.specs.Answer.{answer_of, continued, printed}
 use Rattle.dz_run.specs.Charted.{point_text, report_answer}
 use Rattle.dz_run.specs.declared.ending.Ending.TheVariants.{Done, Point}

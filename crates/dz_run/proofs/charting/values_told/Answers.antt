@@ -1,7 +1,7 @@
 use Rattle.std.proofs.Common.{◌≡◌, ◌∙◌, ◌-◌, map, slice_get}
 use Rattle.dz_diff.specs.States.{state_in}
-use Rattle.dz_tree.proofs.MemberLists.{if_ok}
-use Rattle.dz_tree.specs.Systems.{system_in}
+use Rattle.dz_move.proofs.MemberLists.{if_ok}
+use Rattle.dz_move.specs.Systems.{system_in}
 use Rattle.dz_run.specs.Answer.{answer_of, continued, printed}
 use Rattle.dz_run.specs.Charted.{chain_answer, charted}
 use Rattle.dz_run.specs.declared.ending.Ending.TheVariants.{Done}

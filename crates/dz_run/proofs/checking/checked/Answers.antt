@@ -3,7 +3,7 @@ use Rattle.std.proofs.lemmas.Grind.{common_steps}
 use Rattle.dz_cert.specs.Readers.{texts_of}
 use Rattle.dz_cert.specs.Reading.{document_at}
 use Rattle.dz_syntax.specs.Systems.{tree_of}
-use Rattle.dz_tree.proofs.MemberLists.{if_ok}
+use Rattle.dz_move.proofs.MemberLists.{if_ok}
 use Rattle.dz_run.specs.Answer.{answer_of, with_system}
 use Rattle.dz_run.specs.Checked.{checked_document, document_told}
 use Rattle.dz_run.specs.System.{ranking_of}

@@ -1,5 +1,5 @@
 use Rattle.std.proofs.Common.{◌≡◌, drop, map}
-use Rattle.dz_tree.specs.TreeLines.{line_of}
+use Rattle.dz_move.specs.TreeLines.{line_of}
 use Rattle.dz_run.specs.Decomposed.{lines_ending}
 use Rattle.dz_run.proofs.decomposing.lines_ending.Given as goal
 

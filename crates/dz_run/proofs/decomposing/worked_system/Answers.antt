@@ -2,7 +2,7 @@ use Rattle.std.proofs.Common.{◌≤◌, ◌∙◌, map, subst, ap}
 use Rattle.dz_diff.specs.Operations.{setting_of}
 use Rattle.dz_diff.specs.States.{state_in}
 use Rattle.dz_rank.specs.Rankings.{RankingValue}
-use Rattle.dz_tree.specs.Systems.{system_in}
+use Rattle.dz_move.specs.Systems.{system_in}
 use Rattle.dz_cert.proofs.WrittenLines.{states_document}
 use Rattle.dz_run.specs.Decomposed.{lines_ending}
 use Rattle.dz_run.proofs.WorkedDocuments.{lines_named, worked_answer, worked_certified, worked_is, worked_states}

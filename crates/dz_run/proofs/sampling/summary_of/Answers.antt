@@ -2,7 +2,7 @@ use Rattle.std.proofs.Common.{◌≡◌, ◌∙◌, sym, ap, List, length, map}
 use Rattle.std.proofs.lemmas.List.{length-map}
 use Rattle.dz_diff.specs.States.{StateValue, state_in}
 use Rattle.dz_poly.specs.Books.{BookValue, polynomial}
-use Rattle.dz_tree.specs.Systems.{system_in}
+use Rattle.dz_move.specs.Systems.{system_in}
 use Rattle.dz_run.specs.Decomposed.{tree_chains}
 use Rattle.dz_run.specs.Sampled.{is_accepted, member_count}
 use Rattle.dz_run.proofs.SampledTrees.{lines_derive, summary_is}

@@ -1,5 +1,5 @@
 use Rattle.std.proofs.Common.{◌∙◌, ap}
-use Rattle.dz_tree.specs.Systems.{SystemValue, system_in}
+use Rattle.dz_move.specs.Systems.{SystemValue, system_in}
 use Rattle.dz_sample.proofs.Systems.{count_is, not_refused, system_is}
 use Rattle.dz_sample.proofs.system.sample_system.Goals as goal
 

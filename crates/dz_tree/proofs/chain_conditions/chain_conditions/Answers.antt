@@ -4,7 +4,7 @@ use Rattle.dz_diff.specs.Operations.{setting_of}
 use Rattle.dz_diff.specs.States.{polynomials, state_in}
 use Rattle.dz_tree.specs.Chain.{has_leaders, is_autoreduced, same_pairs}
 use Rattle.dz_tree.specs.EvidenceLines.{evidence_of}
-use Rattle.dz_tree.specs.TreeLines.{line_of}
+use Rattle.dz_move.specs.TreeLines.{line_of}
 use Rattle.dz_tree.proofs.ChainRules.{autoreduced_fails, inequation_fails, leader_fails, multiplier_fails, none_fails, pairs_fail}
 use Rattle.dz_tree.proofs.chain_conditions.chain_conditions.Goals as goal
 

@@ -1,7 +1,7 @@
 use Rattle.std.proofs.Common.{◌≡◌, drop, map}
 use Rattle.dz_tree.specs.Chain.{same_pairs}
 use Rattle.dz_tree.specs.EvidenceLines.{evidence_of}
-use Rattle.dz_tree.specs.TreeLines.{line_of}
+use Rattle.dz_move.specs.TreeLines.{line_of}
 use Rattle.dz_tree.proofs.chain_conditions.same_pairs.Given as goal
 
 abbrev pub invariant-lines : goal.invariant-lines

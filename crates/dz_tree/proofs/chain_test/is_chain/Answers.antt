@@ -5,7 +5,7 @@ use Rattle.dz_tree.specs.Chain.{chain_weight}
 use Rattle.dz_tree.specs.ChainParts.{is_within}
 use Rattle.dz_tree.specs.Entering.{IsEntryFault}
 use Rattle.dz_tree.specs.EvidenceLines.{evidence_of}
-use Rattle.dz_tree.specs.TreeLines.{line_of}
+use Rattle.dz_move.specs.TreeLines.{line_of}
 use Rattle.dz_tree.proofs.ChainWeights.{all_within, chain_same, rule_broken}
 use Rattle.dz_tree.proofs.chain_test.is_chain.Goals as goal
 

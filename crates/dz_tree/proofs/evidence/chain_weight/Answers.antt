@@ -5,7 +5,7 @@ use Rattle.dz_diff.specs.States.{state_in}
 use Rattle.dz_tree.specs.ChainParts.{is_within}
 use Rattle.dz_tree.specs.Entering.{IsEntryFault}
 use Rattle.dz_tree.specs.EvidenceLines.{evidence_of}
-use Rattle.dz_tree.specs.TreeLines.{line_of}
+use Rattle.dz_move.specs.TreeLines.{line_of}
 use Rattle.dz_tree.proofs.ChainWeights.{chain_same, within_budget}
 use Rattle.dz_tree.proofs.evidence.chain_weight.Goals as goal
 

@@ -6,9 +6,10 @@ use Rattle.dz_diff.specs.Operations.{setting_of}
 use Rattle.dz_diff.specs.States.{state_in}
 use Rattle.dz_diff.proofs.MemberTests.{zero_by_length}
 use Rattle.dz_diff.specs.Outcome.{numbered}
-use Rattle.dz_tree.specs.Chain.{Evidence, evidence_weight}
+use Rattle.dz_move.specs.Lines.{Evidence}
+use Rattle.dz_tree.specs.Chain.{evidence_weight}
 use Rattle.dz_tree.specs.Entering.{IsEntryFault}
-use Rattle.dz_tree.proofs.Outcomes.{living_at, nothing_at, polynomial_at}
+use Rattle.dz_move.proofs.Outcomes.{living_at, nothing_at, polynomial_at}
 use Rattle.dz_tree.proofs.RunWeights.{coherent_weight, not_coherent, not_empty, pair_at, run_below, run_stopped}
 use Rattle.dz_tree.proofs.evidence.run_weight.Goals as goal
 

@@ -4,7 +4,7 @@ use Rattle.dz_diff.specs.States.{state_in}
 use Rattle.dz_tree.specs.Chain.{evidence_from}
 use Rattle.dz_tree.specs.ChainParts.{is_within}
 use Rattle.dz_tree.specs.EvidenceLines.{evidence_of}
-use Rattle.dz_tree.specs.TreeLines.{line_of}
+use Rattle.dz_move.specs.TreeLines.{line_of}
 use Rattle.dz_tree.proofs.evidence.runs_weight.Given as goal
 
 abbrev pub invariant-lines : goal.invariant-lines

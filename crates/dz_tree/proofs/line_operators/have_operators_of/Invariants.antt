@@ -1,6 +1,6 @@
 use Rattle.std.proofs.Common.{◌↔◌, drop, map}
 use Rattle.dz_tree.specs.LineOperators.{HaveOperatorsOf}
-use Rattle.dz_tree.specs.TreeLines.{line_of}
+use Rattle.dz_move.specs.TreeLines.{line_of}
 use Rattle.dz_tree.proofs.line_operators.have_operators_of.Given as goal
 
 abbrev pub invariant-lines : goal.invariant-lines

@@ -1,7 +1,7 @@
 use Rattle.std.proofs.Common.{◌∙◌, ap, sym}
 use Rattle.dz_diff.specs.Operations.{setting_of}
-use Rattle.dz_tree.specs.Systems.{system_in}
-use Rattle.dz_tree.specs.TreeLines.{verdict_as}
+use Rattle.dz_move.specs.Systems.{system_in}
+use Rattle.dz_check.specs.Verdicts.{verdict_as}
 use Rattle.dz_tree_cases.proofs.judging.chain_count.Goals as goal
 
 pub chains-requires-clause-certified : goal.chains-requires-clause-certified

@@ -1,0 +1,12 @@
+pub mod Certifying
+pub mod CertifiedChains
+pub mod LawProofs
+pub mod Refusals
+pub mod EvidenceWeights
+pub mod GrowingPlaces
+pub mod PendingStacks
+pub mod Entries
+pub mod LeadingPairs
+pub mod Walks
+pub mod WalkedLines
+pub mod ChainWalks

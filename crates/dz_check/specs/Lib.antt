@@ -1,0 +1,10 @@
+pub mod Reasons
+pub mod Walk
+pub mod Verdicts
+pub mod Certified
+pub mod Leaving
+pub mod SpentPairs
+pub mod Pending
+pub mod Walking
+pub mod Collecting
+pub mod Laws

@@ -1,0 +1,13 @@
+pub mod Root
+pub mod Systems
+pub mod Members
+pub mod Fault
+pub mod Moves
+pub mod Lines
+pub mod TreeLines
+pub mod Actions
+pub mod KnownEnds
+pub mod PairRuns
+pub mod Parts
+pub mod Standing
+pub mod Laws
