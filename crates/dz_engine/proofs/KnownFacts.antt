@@ -11,8 +11,9 @@ use Rattle.dz_rank.specs.declared.symbols.Symbol.{Symbol}
 use Rattle.dz_rank.specs.declared.symbols.Symbol.TheVariants.{Independent, Derivative}
 use Rattle.dz_terms.specs.Entries.{IsEntry}
 use Rattle.dz_terms.specs.Ranked.{symbols_under}
-use Rattle.dz_poly.specs.Books.{BookValue, IsKept, polynomial}
+use Rattle.dz_poly.specs.Books.{BookValue, IsKept, Lives, polynomial}
 use Rattle.dz_poly.proofs.Books.{kept_polynomial}
+use Rattle.dz_diff.specs.Operations.{setting_of}
 use Rattle.dz_diff.specs.State.{State}
 use Rattle.dz_diff.specs.States.{polynomials}
 use Rattle.dz_diff.specs.Tests.{Polynomials, is_member, same}
@@ -23,19 +24,32 @@ use Rattle.dz_step.specs.FullRun.{derivatives_of, or_else}
 use Rattle.dz_step.specs.Step.{multiplier_answer, permitted_if}
 use Rattle.dz_step.proofs.DivisorTables.{polynomial_here}
 use Rattle.dz_step.proofs.Searches.{derivatives_in, derivatives_stand, front}
+use Rattle.dz_pair.specs.Pair.{delta_answer}
+use Rattle.dz_engine.specs.declared.facts.Delta.{Delta}
 use Rattle.dz_engine.specs.declared.facts.Facts.{Facts}
 use Rattle.dz_engine.specs.declared.facts.Multiplier.{Multiplier}
-use Rattle.dz_engine.specs.Facts.{AreFactsOf, AreKnown, IsAnswer, IsKnown, is_undivided, names_of}
+use Rattle.dz_engine.specs.Facts.{AreFactsOf, AreKnown, IsAnswer, IsDelta, IsKnown, is_undivided, names_of}
 use Rattle.dz_engine.specs.Finding.{factor_of, inequation_dividing, to_split, to_split_on}
 use Rattle.dz_engine.specs.Order.{first_symbol, symbols_of}
 use Rattle.dz_engine.proofs.Findings.{led_not_ground, symbols_stand, unled_ground}
 
 -- ---- lists
+-- a Delta-polynomial stays one where the book keeps its polynomials
+delta_stays : (old new : BookValue) → IsKept old new → (p : ℕ) → Lives old p → (d : Delta) → IsDelta old p d → IsDelta new p d
+delta_stays old new k p l d h = record {
+  lives = omega (arith, k.later, h.lives);
+  is = subst (λ r. delta_answer (setting_of r) (polynomial new p) (polynomial new d.other) ≡ Ok d.entry.terms.items) (sym k.ranking)
+      (subst (λ q. delta_answer (setting_of old.ranking) q (polynomial new d.other) ≡ Ok d.entry.terms.items) (sym (kept_polynomial old new p k l))
+      (subst (λ q. delta_answer (setting_of old.ranking) (polynomial old p) q ≡ Ok d.entry.terms.items) (sym (kept_polynomial old new d.other k h.lives)) h.is));
+  entry = subst (λ r. IsEntry r d.entry.terms.items d.entry.degrees.items) (sym k.ranking) h.entry;
+}
+
 -- what is known stays so where the book keeps its polynomials
 pub known_stays : (old new : BookValue) → IsKept old new → (f : Facts) → IsKnown old f → IsKnown new f
 known_stays old new k f h = record {
   lives = omega (arith, k.later, h.lives);
   facts = subst (λ r. AreFactsOf r (polynomial new f.poly) f) (sym k.ranking) (subst (λ q. AreFactsOf old.ranking q f) (sym (kept_polynomial old new f.poly k h.lives)) h.facts);
+  deltas = λ i d l. delta_stays old new k f.poly h.lives (slice_index_or f.deltas.items i d) (h.deltas i d l);
 }
 
 pub all_stay : (old new : BookValue) → IsKept old new → (fs : List Facts) → AreKnown old fs → AreKnown new fs

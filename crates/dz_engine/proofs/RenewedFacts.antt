@@ -31,6 +31,12 @@ names_set k fs g l = rw add-one (at k fs l)
     at zero (f ∷ fs) l = refl
     at (suc k) (f ∷ fs) l = ap (λ ps. f.poly ∷ ps) (at k fs (omega arith))
 
+-- where the other has the same name, all names stay
+pub names_stay : (k : ℕ) (fs : List Facts) (g d : Facts) → k < length fs → g.poly ≡ (slice_index_or fs k d).poly → names_of (slice_set fs k g) ≡ names_of fs
+names_stay k [] g d l e = absurd (omega arith)
+names_stay zero (f ∷ fs) g d l e = ap (λ p. p ∷ names_of fs) e
+names_stay (suc k) (f ∷ fs) g d l e = ap (λ ps. f.poly ∷ ps) (names_stay k fs g d (omega arith) e)
+
 -- or behind them all
 pub names_push : (k : ℕ) (fs : List Facts) (g : Facts) → k ≡ length fs → take (k + 1) (names_of (fs ++ g ∷ [])) ≡ take k (names_of fs) ++ g.poly ∷ []
 names_push k fs g e = rw add-one (at k fs e)

@@ -28,14 +28,22 @@ pub(crate) struct Multiplier {
     pub(crate) is_unit: bool,
 }
 
+/// The Delta-polynomial of an equation with another one behind it.
+#[derive(Drop)]
+pub(crate) struct Delta {
+    pub(crate) other: Poly,
+    pub(crate) entry: Entry,
+}
+
 /// What is found out of an equation: its initial and its separant, where it has a leader, `None` for
-/// one that does not fit; and whether no symbol divides it.
+/// one that does not fit; whether no symbol divides it; and the Delta-polynomials that were made of it.
 #[derive(Drop)]
 pub(crate) struct Facts {
     pub(crate) poly: Poly,
     pub(crate) initial: Option<Multiplier>,
     pub(crate) separant: Option<Multiplier>,
     pub(crate) is_undivided: bool,
+    pub(crate) deltas: Vec<Delta>,
 }
 
 /// What is found out of a multiplier that fits.
@@ -100,6 +108,7 @@ fn found_out(book: &Book, poly: Poly) -> Result<Facts, AllocError>
             initial: None,
             separant: None,
             is_undivided,
+            deltas: Vec::new(book.allocator()),
         });
     };
     let initial = asked(book, q, lead, Which::Initial)?;
@@ -109,6 +118,7 @@ fn found_out(book: &Book, poly: Poly) -> Result<Facts, AllocError>
         initial,
         separant,
         is_undivided,
+        deltas: Vec::new(book.allocator()),
     })
 }
 

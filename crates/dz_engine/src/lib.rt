@@ -9,6 +9,7 @@
 mod admitting;
 mod courses;
 mod decomposing;
+mod deltas;
 mod dividing;
 mod factoring;
 mod facts;

@@ -12,15 +12,18 @@ ghost use Rattle.dz_step.specs.FullRun.{Course};
 ghost use Rattle.dz_step.specs.declared.Role.TheVariants.{Free};
 ghost use Rattle.dz_move.specs.Lines.{Evidence, pair};
 ghost use Rattle.dz_move.specs.TreeLines.{line_of};
+ghost use Rattle.dz_engine.specs.Facts.{AreKnown, names_of};
 ghost use Rattle.dz_engine.specs.Halting.{IsHalt};
 ghost use Rattle.dz_engine.specs.Naming.{HasEntry, IsNamed, IsOnward, IsPairAt, IsPairCourse, IsPairStop};
 ghost use Rattle.dz_engine.specs.Naming.{IsSoFar, PairHasEntry, line_weight, states_below};
 ghost use Rattle.dz_engine.specs.Order.{delta_at, with_evidence};
 
+use crate::deltas::delta_at;
+use crate::facts::Facts;
 use crate::halting::{Halt, halted};
 use crate::naming::{Named, ended};
 use dz_move::{ActionEnd, Line, Next};
-use dz_pair::{delta_entry, pairs};
+use dz_pair::pairs;
 use dz_poly::{Book, Limit, PolyStop};
 use dz_step::{Divisor, FullRun, Role, RunEnd, State, StepList, member_at, run_with};
 use dz_terms::{Entry, into_norm};
@@ -103,6 +106,7 @@ fn delta_course(
 fn pair_course(
     book: &Book,
     state: &State,
+    facts: &mut Vec<Facts>,
     first: u16,
     second: u16,
     left: u32,
@@ -112,24 +116,20 @@ fn pair_course(
     requires table { AreDivisors book.now.ranking (state_in book.now state.now) Free table.old.items }
     requires pair { IsPairAt (symbols_under book.now.ranking) (state_in book.now state.now)
         first second }
+    requires known { AreKnown book.now facts.old.items }
+    requires names { names_of facts.old.items ≡ state.now.equations }
+    ensures known { AreKnown book.now facts.new.items }
+    ensures names { names_of facts.new.items ≡ state.now.equations }
     ensures table { AreDivisors book.now.ranking (state_in book.now state.now) Free table.new.items }
     ensures course { IfOk result (λ x. (budget w : ℕ) → w ≤ budget → left ≡ budget - w
         → IsPairCourse (setting_of book.now.ranking) budget w (state_in book.now state.now)
         (first, second) x) }
     ensures entry { IfOk result (λ x. PairHasEntry book.now.ranking x) }
 {
-    let Some(p) = member_at(state.equations(), first) else {
-        unreachable!()
-    };
     let Some(q) = member_at(state.equations(), second) else {
         unreachable!()
     };
-    match delta_entry(
-        book.allocator(),
-        book.ranking(),
-        book.entry(p),
-        book.entry(q),
-    ) {
+    match delta_at(book, facts, first as usize - 1, q) {
         Ok(delta) => delta_course(book, state, delta, left, table),
         Err(PolyStop::Memory) => Err(AllocError),
         Err(PolyStop::Wide) => Ok(PairCourse::Wide(StepList::new(book.allocator()))),
@@ -170,6 +170,7 @@ fn headed(
 fn one_pair(
     book: &Book,
     state: &State,
+    facts: &mut Vec<Facts>,
     first: u16,
     second: u16,
     budget: u32,
@@ -181,6 +182,10 @@ fn one_pair(
     requires pair { IsPairAt (symbols_under book.now.ranking) (state_in book.now state.now)
         first second }
     requires within { so_far.old.spent ≤ budget }
+    requires known { AreKnown book.now facts.old.items }
+    requires names { names_of facts.old.items ≡ state.now.equations }
+    ensures known { AreKnown book.now facts.new.items }
+    ensures names { names_of facts.new.items ≡ state.now.equations }
     ensures table { AreDivisors book.now.ranking (state_in book.now state.now) Free table.new.items }
     ensures within { so_far.new.spent ≤ budget }
     ensures entry { IfOk result (λ o. IfSome o (λ x. HasEntry book.now.ranking x)) }
@@ -192,7 +197,7 @@ fn one_pair(
 {
     let alloc = book.allocator();
     let left = budget - so_far.spent;
-    match pair_course(book, state, first, second, left, table)? {
+    match pair_course(book, state, facts, first, second, left, table)? {
         PairCourse::Zero(run, cost) => {
             so_far.lines.push(Line::Pair { first, second, run })?;
             so_far.spent += cost;
@@ -221,6 +226,7 @@ fn one_pair(
 pub(crate) fn pairs_named(
     book: &Book,
     state: &State,
+    facts: &mut Vec<Facts>,
     weight: u32,
     budget: u32,
     table: &mut Vec<Option<Divisor>>,
@@ -228,6 +234,9 @@ pub(crate) fn pairs_named(
     requires stands { StandsIn book.now state.now }
     requires table { AreDivisors book.now.ranking (state_in book.now state.now) Free table.old.items }
     requires within { weight ≤ budget }
+    requires known { AreKnown book.now facts.old.items }
+    requires names { names_of facts.old.items ≡ state.now.equations }
+    ensures known { AreKnown book.now facts.new.items }
     ensures entry { IfOk result (λ x. HasEntry book.now.ranking x) }
     ensures named { IfOk result (λ x. IsOnward (setting_of book.now.ranking) budget weight
         (state_in book.now state.now) [] weight [] (Some x)) }
@@ -239,7 +248,16 @@ pub(crate) fn pairs_named(
     };
     'pairs: for k in 0..found.len() {
         let (first, second) = found[k];
-        let named = one_pair(book, state, first, second, budget, &mut so_far, table)?;
+        let named = one_pair(
+            book,
+            state,
+            facts,
+            first,
+            second,
+            budget,
+            &mut so_far,
+            table,
+        )?;
         if let Some(named) = named {
             return Ok(named);
         }

@@ -15,7 +15,7 @@ pub returns-in-Some-clause-named : goal.returns-in-Some-clause-named
 returns-in-Some-clause-named c =
     let book = c.args.book.now in
     let s = state_in book c.args.state.now in
-    let h = next_pair (setting_of book.ranking) c.args.budget c.args.weight s c.pairs.so_far.lines.items c.pairs.so_far.spent c.pairs.k c.in_ok-found.found.items c.index.result.now c.in_ok-found.ensures (omega (arith, c.pairs-test.true, c.len-k-end.ensures)) c.index.ensures c.pairs.invariant.2 in
+    let h = next_pair (setting_of book.ranking) c.args.budget c.args.weight s c.pairs.so_far.lines.items c.pairs.so_far.spent c.pairs.k c.in_ok-found.found.items c.index.result.now c.in_ok-found.ensures (omega (arith, c.pairs-test.true, c.len-k-end.ensures)) c.index.ensures c.pairs.invariant.4 in
     subst (IsOnward (setting_of book.ranking) c.args.budget c.args.weight s _ _ _) c.in-Some.is (c.in_ok-named.ensures.onward c.args.weight _ h)
 
 pub returns-clause-named : goal.returns-clause-named
@@ -23,4 +23,4 @@ returns-clause-named c =
     let book = c.args.book.now in
     let s = state_in book c.args.state.now in
     if_ok _ _ c.headed.result (λ x f _.
-    chain_onward (setting_of book.ranking) c.args.budget c.args.weight s c.pairs.so_far.lines.items c.pairs.so_far.spent c.pairs.k c.in_ok-found.found.items x c.in_ok-found.ensures (omega (arith, c.pairs-test.false, c.len-k-end.ensures)) c.pairs.invariant.2 (f (setting_of book.ranking) c.args.budget c.args.weight s)) c.headed.ensures.named
+    chain_onward (setting_of book.ranking) c.args.budget c.args.weight s c.pairs.so_far.lines.items c.pairs.so_far.spent c.pairs.k c.in_ok-found.found.items x c.in_ok-found.ensures (omega (arith, c.pairs-test.false, c.len-k-end.ensures)) c.pairs.invariant.4 (f (setting_of book.ranking) c.args.budget c.args.weight s)) c.headed.ensures.named
