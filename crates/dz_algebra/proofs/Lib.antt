@@ -1,4 +1,5 @@
 pub mod Orders
+pub mod ListOrder
 pub mod Canonical
 pub mod Monomials
 pub mod Totals
@@ -28,3 +29,4 @@ pub mod OperationOrder
 pub mod Inside
 pub mod SymbolLists
 pub mod Linear
+pub mod Outcomes

@@ -1,3 +1,4 @@
+pub mod Outcome
 pub mod Domain
 pub mod Ring
 pub mod Whole

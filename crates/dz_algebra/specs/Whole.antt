@@ -33,10 +33,12 @@ whole_operations = record {
   derivative = λ _ a. a;
 }
 
-up_mul : (a b : ℤ) → up (a *ℤ b) ≡ up a * up b + down a * down b
+-- the positive part of a product
+pub up_mul : (a b : ℤ) → up (a *ℤ b) ≡ up a * up b + down a * down b
 up_mul a b = (product_is a b).0
 
-down_mul : (a b : ℤ) → down (a *ℤ b) ≡ up a * down b + down a * up b
+-- the negative part of a product
+pub down_mul : (a b : ℤ) → down (a *ℤ b) ≡ up a * down b + down a * up b
 down_mul a b = (product_is a b).1
 
 -- products associate

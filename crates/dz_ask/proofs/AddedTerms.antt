@@ -12,13 +12,13 @@ use Rattle.dz_algebra.specs.Size.{Refusal, operation, sum_answer}
 use Rattle.dz_rank.specs.Rankings.{RankingValue}
 use Rattle.dz_rank.specs.declared.symbols.Symbol.{Symbol}
 use Rattle.dz_terms.specs.Entries.{IsEntry}
-use Rattle.dz_terms.specs.Ranked.{symbols_under}
-use Rattle.dz_terms.specs.Signs.{with_sign}
-use Rattle.dz_terms.specs.Stops.{IsStop}
-use Rattle.dz_terms.specs.declared.sums.Sign.TheVariants.{Plus}
-use Rattle.dz_terms.proofs.Summing.{plus_same}
-use Rattle.dz_terms.specs.declared.PolyStop.{PolyStop}
-use Rattle.dz_diff.specs.Outcome.{◌>>=◌}
+use Rattle.dz_monomials.specs.Ranked.{symbols_under}
+use Rattle.dz_monomials.specs.Signs.{with_sign}
+use Rattle.dz_monomials.specs.Stops.{IsStop}
+use Rattle.dz_monomials.specs.declared.sign.Sign.TheVariants.{Plus}
+use Rattle.dz_monomials.proofs.Summing.{plus_same}
+use Rattle.dz_monomials.specs.declared.PolyStop.{PolyStop}
+use Rattle.dz_algebra.specs.Outcome.{◌>>=◌}
 use Rattle.dz_step.proofs.StepParts.{stop_first}
 use Rattle.dz_ask.specs.Preparation.{Term}
 use Rattle.dz_ask.specs.Products.{Product, product_cmp}
@@ -30,7 +30,7 @@ use Rattle.dz_ask.proofs.TermPasses.{prepended, prepended-cons}
 
 -- the term of a working term
 abbrev in_term : WorkingTerm → Term
-in_term t = (t.product.items, t.coefficient.terms.items)
+in_term t = (t.product.items, t.coefficient.terms)
 
 -- a sum with a plus sign is a sum
 pub plus_stop : (r : RankingValue) (a b : Polynomial Symbol) (stop : PolyStop) → IsStop stop (operation (symbols_under r) (a ++ with_sign Plus b)) → IsStop stop (sum_answer (symbols_under r) a b)
@@ -57,7 +57,7 @@ terms_set ts i t h = ap terms_in (set_is ts i t h) ∙ map-append in_term (take 
 module _ (r : RankingValue) where
   -- a term has an entry
   abbrev P : WorkingTerm → Type 0
-  P t = IsEntry r t.coefficient.terms.items t.coefficient.degrees.items
+  P t = IsEntry r t.coefficient
 
   pub entries_inserted : (ts : List WorkingTerm) (i : ℕ) (t : WorkingTerm) → i ≤ length ts → AreEntries r ts → P t → AreEntries r (insert ts i t)
   entries_inserted ts i t h k p = subst (AreEntries r) (sym (inserted_is ts i t h)) (All-append P (take i ts) (t ∷ drop i ts) (All-take P i ts k) (All-cons P t (drop i ts) p (All-drop P i ts k)))
@@ -79,7 +79,7 @@ module _ (r : RankingValue) (m : Product) (c : Polynomial Symbol) (ts : List Wor
 
     -- what is answered, by how the product compares with that here
     abbrev choice : Ordering → Result (List Term) Refusal
-    choice o = match_ordering o (sum_answer (symbols_under r) [] c >>= (λ x. Ok ((m, x) ∷ in_term t ∷ rest))) (sum_answer (symbols_under r) t.coefficient.terms.items c >>= (λ x. Ok ((t.product.items, x) ∷ rest))) (added (symbols_under r) m c rest >>= (λ us. Ok (in_term t ∷ us)))
+    choice o = match_ordering o (sum_answer (symbols_under r) [] c >>= (λ x. Ok ((m, x) ∷ in_term t ∷ rest))) (sum_answer (symbols_under r) t.coefficient.terms c >>= (λ x. Ok ((t.product.items, x) ∷ rest))) (added (symbols_under r) m c rest >>= (λ us. Ok (in_term t ∷ us)))
 
     -- the answer is that of the comparison here
     chosen : (o : Ordering) → product_cmp m t.product.items ≡ o → whole ≡ prepended before (choice o)
@@ -93,11 +93,11 @@ module _ (r : RankingValue) (m : Product) (c : Polynomial Symbol) (ts : List Wor
     pub first_refused : (stop : PolyStop) → product_cmp m t.product.items ≡ Less → IsStop stop (sum_answer (symbols_under r) [] c) → IsStop stop whole
     first_refused stop f g = subst (IsStop stop) (sym (chosen Less f)) (stop_first stop (choice Less) _ (stop_first stop (sum_answer (symbols_under r) [] c) _ g))
 
-    pub added_here : (x : Polynomial Symbol) → product_cmp m t.product.items ≡ Equal → sum_answer (symbols_under r) t.coefficient.terms.items c ≡ Ok x → whole ≡ Ok (before ++ (t.product.items, x) ∷ rest)
+    pub added_here : (x : Polynomial Symbol) → product_cmp m t.product.items ≡ Equal → sum_answer (symbols_under r) t.coefficient.terms c ≡ Ok x → whole ≡ Ok (before ++ (t.product.items, x) ∷ rest)
     added_here x f g = chosen Equal f ∙ ap (λ (y : Result (Polynomial Symbol) Refusal). prepended before (y >>= (λ x. Ok ((t.product.items, x) ∷ rest)))) g
 
-    pub here_refused : (stop : PolyStop) → product_cmp m t.product.items ≡ Equal → IsStop stop (sum_answer (symbols_under r) t.coefficient.terms.items c) → IsStop stop whole
-    here_refused stop f g = subst (IsStop stop) (sym (chosen Equal f)) (stop_first stop (choice Equal) _ (stop_first stop (sum_answer (symbols_under r) t.coefficient.terms.items c) _ g))
+    pub here_refused : (stop : PolyStop) → product_cmp m t.product.items ≡ Equal → IsStop stop (sum_answer (symbols_under r) t.coefficient.terms c) → IsStop stop whole
+    here_refused stop f g = subst (IsStop stop) (sym (chosen Equal f)) (stop_first stop (choice Equal) _ (stop_first stop (sum_answer (symbols_under r) t.coefficient.terms c) _ g))
 
     pub passed_by : product_cmp m t.product.items ≡ Greater → whole ≡ prepended (terms_in (take (i + 1) ts)) (added (symbols_under r) m c rest)
     passed_by f =

@@ -8,7 +8,7 @@ use Rattle.dz_algebra.proofs.Operations.{operation_is}
 use Rattle.dz_rank.specs.declared.symbols.Symbol.{Symbol}
 use Rattle.dz_diff.specs.Operations.{Setting, iterated_answer, derivations_answer, operator_answer}
 use Rattle.dz_diff.specs.State.{State, at_place}
-use Rattle.dz_diff.proofs.Answers.{bind_ok, ok_same}
+use Rattle.dz_algebra.proofs.Outcomes.{bind_ok, ok_same}
 use Rattle.dz_step.specs.declared.Step.{Step}
 use Rattle.dz_ask.specs.Derivatives.{iterated_derivative, mixed_derivative, operator_derivative, derivative_at}
 

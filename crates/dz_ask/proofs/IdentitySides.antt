@@ -11,9 +11,9 @@ use Rattle.dz_algebra.proofs.PolynomialRing.{Canonical, polynomial_ring, one_is}
 use Rattle.dz_algebra.proofs.Products.{monomials_pairs, polynomial_sum_is}
 use Rattle.dz_rank.specs.Rankings.{RankingValue, ranking_cmp}
 use Rattle.dz_rank.specs.declared.symbols.Symbol.{Symbol}
-use Rattle.dz_terms.specs.Ranked.{symbols_under}
-use Rattle.dz_terms.proofs.SymbolLaws.{ranking_order}
-use Rattle.dz_diff.specs.Lists.{AllOf}
+use Rattle.dz_monomials.specs.Ranked.{symbols_under}
+use Rattle.dz_monomials.proofs.SymbolLaws.{ranking_order}
+use Rattle.dz_monomials.specs.Lists.{AllOf}
 use Rattle.dz_diff.specs.Operations.{setting_of}
 use Rattle.dz_diff.specs.State.{State, at_place}
 use Rattle.dz_step.specs.declared.Step.{Step}

@@ -5,7 +5,7 @@ use Rattle.std.proofs.lemmas.List.{map-append}
 use Rattle.std.proofs.lemmas.List.Elements.{All-append, All-cons, All-nil}
 use Rattle.dz_algebra.specs.Polynomial.{Polynomial}
 use Rattle.dz_rank.specs.declared.symbols.Symbol.{Symbol}
-use Rattle.dz_terms.specs.declared.entry.Entry.{Entry}
+use Rattle.dz_terms.specs.Entries.{EntryValue}
 use Rattle.dz_poly.specs.Books.{BookValue, IsKept, Lives, Means, polynomial}
 use Rattle.dz_poly.proofs.Books.{kept_polynomial, lives_on, means_lives, means_polynomial}
 use Rattle.dz_diff.proofs.KeptStates.{kept_polynomials, live_on}
@@ -34,11 +34,11 @@ module _ (old new : BookValue) (kept : IsKept old new) where
   pub live_more : (ps all : List ℕ) (p : ℕ) (q : Polynomial Symbol) → LiveAll old ps → Means new p q → all ≡ ps ++ p ∷ [] → LiveAll new all
   live_more ps all p q live m e = subst (LiveAll new) (sym e) (All-append (λ p. Lives new p) ps (p ∷ []) (live_on old new kept ps live) (All-cons (λ p. Lives new p) p [] (means_lives new p q m) (All-nil (λ p. Lives new p))))
 
-  pub polynomials_more : (es : List Entry) (i : ℕ) (e : Entry) → i < length es → e ≡ slice_index_or es i e → (ps all : List ℕ) (p : ℕ) → LiveAll old ps → Means new p e.terms.items → all ≡ ps ++ p ∷ []
+  pub polynomials_more : (es : List EntryValue) (i : ℕ) (e : EntryValue) → i < length es → e ≡ slice_index_or es i e → (ps all : List ℕ) (p : ℕ) → LiveAll old ps → Means new p e.terms → all ≡ ps ++ p ∷ []
       → polynomials old ps ≡ polynomials_of (take i es) → polynomials new all ≡ polynomials_of (take (i + 1) es)
   polynomials_more es i e h there ps all p live m f so_far =
-      ap (polynomials new) f ∙ map-append (λ p. polynomial new p) ps (p ∷ []) ∙ ap₂ (λ a b. a ++ b ∷ []) (kept_polynomials old new kept ps live ∙ so_far) (means_polynomial new p e.terms.items m)
-      ∙ sym (ap polynomials_of (taken_more es i e h there) ∙ map-append (λ (e : Entry). e.terms.items) (take i es) (e ∷ []))
+      ap (polynomials new) f ∙ map-append (λ p. polynomial new p) ps (p ∷ []) ∙ ap₂ (λ a b. a ++ b ∷ []) (kept_polynomials old new kept ps live ∙ so_far) (means_polynomial new p e.terms m)
+      ∙ sym (ap polynomials_of (taken_more es i e h there) ∙ map-append (λ (e : EntryValue). e.terms) (take i es) (e ∷ []))
 
   -- ---- terms
   pub live_terms_on : (ts : List PreparedTerm) → LiveTerms old ts → LiveTerms new ts
@@ -53,7 +53,7 @@ module _ (old new : BookValue) (kept : IsKept old new) where
   pub live_terms_more : (ts all : List PreparedTerm) (t : PreparedTerm) → LiveTerms old ts → Lives new t.coefficient → all ≡ ts ++ t ∷ [] → LiveTerms new all
   live_terms_more ts all t h k e = subst (LiveTerms new) (sym e) (all-append (λ (t : PreparedTerm). Lives new t.coefficient) ts (t ∷ []) (live_terms_on ts h) (k, tt))
 
-  pub terms_more : (ws : List WorkingTerm) (i : ℕ) (w : WorkingTerm) → i < length ws → w ≡ slice_index_or ws i w → (ts all : List PreparedTerm) (t : PreparedTerm) → LiveTerms old ts → term_in new t ≡ (w.product.items, w.coefficient.terms.items) → all ≡ ts ++ t ∷ []
+  pub terms_more : (ws : List WorkingTerm) (i : ℕ) (w : WorkingTerm) → i < length ws → w ≡ slice_index_or ws i w → (ts all : List PreparedTerm) (t : PreparedTerm) → LiveTerms old ts → term_in new t ≡ (w.product.items, w.coefficient.terms) → all ≡ ts ++ t ∷ []
       → map (term_in old) ts ≡ terms_in (take i ws) → map (term_in new) all ≡ terms_in (take (i + 1) ws)
   terms_more ws i w h there ts all t live m f so_far =
       ap (map (term_in new)) f ∙ map-append (term_in new) ts (t ∷ []) ∙ ap₂ (λ (a : List Term) (b : Term). a ++ b ∷ []) (kept_terms_same ts live ∙ so_far) m

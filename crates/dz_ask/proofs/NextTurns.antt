@@ -5,9 +5,9 @@ use Rattle.dz_algebra.specs.Size.{Refusal}
 use Rattle.dz_rank.specs.Rankings.{RankingValue}
 use Rattle.dz_rank.specs.declared.symbols.Symbol.{Symbol}
 use Rattle.dz_terms.specs.Entries.{IsEntry}
-use Rattle.dz_diff.specs.Lists.{AllOf}
+use Rattle.dz_monomials.specs.Lists.{AllOf}
 use Rattle.dz_diff.specs.Operations.{setting_of}
-use Rattle.dz_diff.specs.Outcome.{◌>>=◌, given, told_as}
+use Rattle.dz_algebra.specs.Outcome.{◌>>=◌, given, told_as}
 use Rattle.dz_diff.specs.State.{State}
 use Rattle.dz_diff.proofs.LeaderDerivations.{IsRegular}
 use Rattle.dz_step.proofs.FullCourses.{entry_regular, next_is, not_no_step}
@@ -62,6 +62,6 @@ module _ (r : RankingValue) (s : State) (regular : AllOf (PolynomialIn (IsRegula
       → IsStepStop stop (turned_terms (setting_of r) s (turn_by ts index next.0 step)) → stop ≢ NotStep
   next_turn_stop ts index step all next stop h =
       let t = next.0 in
-      let entry : IsEntry r t.coefficient.terms.items t.coefficient.degrees.items = subst (λ (t : WorkingTerm). IsEntry r t.coefficient.terms.items t.coefficient.degrees.items) (sym next.2) (all index t next.1) in
+      let entry : IsEntry r t.coefficient = subst (λ (t : WorkingTerm). IsEntry r t.coefficient) (sym next.2) (all index t next.1) in
       let found = turn_found r s [] (terms_in ts) (turn_by ts index t step) next.3 in
-      not_no_step (turned_terms (setting_of r) s (turn_by ts index t step)) stop (turn_limited (turn_by ts index t step) (entry_regular r t.coefficient.terms.items entry.keepable) found.1) h
+      not_no_step (turned_terms (setting_of r) s (turn_by ts index t step)) stop (turn_limited (turn_by ts index t step) (entry_regular r t.coefficient.terms entry.keepable) found.1) h

@@ -20,17 +20,17 @@ use Rattle.dz_algebra.proofs.PolynomialRing.{Canonical}
 use Rattle.dz_rank.specs.Rankings.{RankingValue, ranking_cmp}
 use Rattle.dz_rank.specs.Symbols.{derivative_by}
 use Rattle.dz_rank.specs.declared.symbols.Symbol.{Symbol}
-use Rattle.dz_terms.specs.Ranked.{symbols_under}
-use Rattle.dz_terms.specs.Terms.{times_power}
-use Rattle.dz_terms.proofs.SymbolLaws.{ranking_order}
-use Rattle.dz_diff.specs.Lists.{AllOf}
+use Rattle.dz_monomials.specs.Ranked.{symbols_under}
+use Rattle.dz_monomials.specs.Terms.{times_power}
+use Rattle.dz_monomials.proofs.SymbolLaws.{ranking_order}
+use Rattle.dz_monomials.specs.Lists.{AllOf}
 use Rattle.dz_diff.specs.Operations.{setting_of}
 use Rattle.dz_diff.specs.Operators.{is_proper}
-use Rattle.dz_diff.specs.Outcome.{told_as}
+use Rattle.dz_algebra.specs.Outcome.{told_as}
 use Rattle.dz_diff.specs.Over.{IsOver}
 use Rattle.dz_diff.specs.State.{State, at_place}
 use Rattle.dz_diff.specs.Tests.{Polynomials}
-use Rattle.dz_diff.proofs.Answers.{bind_ok, both, given_then, ok_same, told_ok}
+use Rattle.dz_algebra.proofs.Outcomes.{bind_ok, both, given_then, ok_same, told_ok}
 use Rattle.dz_diff.proofs.Goodness.{Good, Goods, good_coefficient, good_difference, good_operation, good_operator, good_product, good_terms, goods_divided, goods_times_power}
 use Rattle.dz_diff.proofs.LeaderBounds.{leader_degree}
 use Rattle.dz_diff.proofs.Overs.{good_over}

@@ -10,8 +10,8 @@ use Rattle.dz_algebra.specs.Monomial.{with_power}
 use Rattle.dz_algebra.specs.Size.{Refusal, large}
 use Rattle.dz_algebra.specs.declared.Limit.TheVariants.{Exponent}
 use Rattle.dz_algebra.proofs.Orders.{less_reversed, greater_reversed}
-use Rattle.dz_diff.specs.Outcome.{◌>>=◌}
-use Rattle.dz_diff.proofs.Answers.{bind_ok, ok_same}
+use Rattle.dz_algebra.specs.Outcome.{◌>>=◌}
+use Rattle.dz_algebra.proofs.Outcomes.{bind_ok, ok_same}
 use Rattle.dz_step.specs.declared.Step.{Step}
 use Rattle.dz_ask.specs.Products.{Product, raised_product, step_cmp, turned_round}
 use Rattle.dz_ask.proofs.ListPasses.{take_rest}

@@ -10,8 +10,8 @@ use Rattle.dz_algebra.proofs.Orders.{same_monomial}
 use Rattle.dz_algebra.proofs.Values.{collect_value, negated_value, pairs_value, value-append}
 use Rattle.dz_rank.specs.Rankings.{RankingValue, ranking_cmp}
 use Rattle.dz_rank.specs.declared.symbols.Symbol.{Symbol}
-use Rattle.dz_terms.specs.Ranked.{symbols_under}
-use Rattle.dz_terms.proofs.SymbolLaws.{ranking_order}
+use Rattle.dz_monomials.specs.Ranked.{symbols_under}
+use Rattle.dz_monomials.proofs.SymbolLaws.{ranking_order}
 
 module _ {R : Type 0} (ring : Ring R) (r : RankingValue) (at : Symbol → R) where
   -- the value of contributions

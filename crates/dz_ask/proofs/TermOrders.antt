@@ -9,11 +9,11 @@ use Rattle.dz_algebra.specs.Size.{Refusal, product_answer, sum_answer}
 use Rattle.dz_algebra.proofs.Orders.{greater_reversed, greater_trans}
 use Rattle.dz_rank.specs.Rankings.{RankingValue}
 use Rattle.dz_rank.specs.declared.symbols.Symbol.{Symbol}
-use Rattle.dz_terms.specs.Ranked.{symbols_under}
-use Rattle.dz_diff.specs.Lists.{AllOf}
-use Rattle.dz_diff.specs.Outcome.{◌>>=◌}
+use Rattle.dz_monomials.specs.Ranked.{symbols_under}
+use Rattle.dz_monomials.specs.Lists.{AllOf}
+use Rattle.dz_algebra.specs.Outcome.{◌>>=◌}
 use Rattle.dz_diff.specs.Tests.{is_zero}
-use Rattle.dz_diff.proofs.Answers.{bind_ok, ok_same}
+use Rattle.dz_algebra.proofs.Outcomes.{bind_ok, ok_same}
 use Rattle.dz_ask.specs.Preparation.{Term}
 use Rattle.dz_ask.specs.Products.{Product, product_cmp, turned_round}
 use Rattle.dz_ask.specs.Turns.{multiplied, added, nonzero_terms}

@@ -15,7 +15,7 @@ use Rattle.dz_ask.proofs.ListPasses.{all_dropped, dropped, taken_more}
 
 -- the term of a working term
 abbrev in_term : WorkingTerm → Term
-in_term t = (t.product.items, t.coefficient.terms.items)
+in_term t = (t.product.items, t.coefficient.terms)
 
 module _ (g : Setting) (s : State) (ts : List WorkingTerm) (i : ℕ) (so_far : next_turn g s (terms_in ts) ≡ next_turn_after g s (terms_in (take i ts)) (terms_in (drop i ts))) where
   module _ (t : WorkingTerm) (h : i < length ts) (e : t ≡ slice_index_or ts i t) where
@@ -24,18 +24,18 @@ module _ (g : Setting) (s : State) (ts : List WorkingTerm) (i : ℕ) (so_far : n
     rest = terms_in (drop (i + 1) ts)
 
     -- the turn is here or behind, as the coefficient says
-    chosen : (o : Option Step) → next_step g s Free t.coefficient.terms.items ≡ o
+    chosen : (o : Option Step) → next_step g s Free t.coefficient.terms ≡ o
         → next_turn g s (terms_in ts) ≡ elim o as (λ _. Option Turn) [ Some st ↦ Some (turn_by ts i t st) | None ↦ next_turn_after g s (terms_in (take i ts) ++ in_term t ∷ []) rest ]
     chosen o f =
         so_far ∙ ap (λ l. next_turn_after g s (terms_in (take i ts)) (terms_in l)) (dropped ts i t h e)
         ∙ ap (λ o. elim o as (λ _. Option Turn) [ Some st ↦ Some (turn_by ts i t st) | None ↦ next_turn_after g s (terms_in (take i ts) ++ in_term t ∷ []) rest ]) f
 
     -- the turn is at this term
-    pub turn_there : (st : Step) → next_step g s Free t.coefficient.terms.items ≡ Some st → next_turn g s (terms_in ts) ≡ Some (turn_by ts i t st)
+    pub turn_there : (st : Step) → next_step g s Free t.coefficient.terms ≡ Some st → next_turn g s (terms_in ts) ≡ Some (turn_by ts i t st)
     turn_there st f = chosen (Some st) f
 
     -- or behind it
-    pub turn_behind : next_step g s Free t.coefficient.terms.items ≡ None → next_turn g s (terms_in ts) ≡ next_turn_after g s (terms_in (take (i + 1) ts)) rest
+    pub turn_behind : next_step g s Free t.coefficient.terms ≡ None → next_turn g s (terms_in ts) ≡ next_turn_after g s (terms_in (take (i + 1) ts)) rest
     turn_behind f = chosen None f ∙ ap (λ l. next_turn_after g s l rest) (sym (ap terms_in (taken_more ts i t h e) ∙ map-append in_term (take i ts) (t ∷ [])))
 
   -- or nowhere

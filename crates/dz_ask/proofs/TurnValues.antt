@@ -11,11 +11,11 @@ use Rattle.dz_algebra.specs.Value.{monomial_value}
 use Rattle.dz_algebra.proofs.Values.{with_power_value}
 use Rattle.dz_rank.specs.Rankings.{RankingValue}
 use Rattle.dz_rank.specs.declared.symbols.Symbol.{Symbol}
-use Rattle.dz_terms.specs.Ranked.{symbols_under}
-use Rattle.dz_terms.proofs.SymbolLaws.{ranking_order}
-use Rattle.dz_diff.specs.Outcome.{◌>>=◌}
+use Rattle.dz_monomials.specs.Ranked.{symbols_under}
+use Rattle.dz_monomials.proofs.SymbolLaws.{ranking_order}
+use Rattle.dz_algebra.specs.Outcome.{◌>>=◌}
 use Rattle.dz_diff.specs.Tests.{is_zero, same}
-use Rattle.dz_diff.proofs.Answers.{bind_ok, ok_same}
+use Rattle.dz_algebra.proofs.Outcomes.{bind_ok, ok_same}
 use Rattle.dz_diff.proofs.SameTests.{same_is}
 use Rattle.dz_step.specs.declared.Step.{Step}
 use Rattle.dz_ask.specs.Preparation.{Term, product_of, sum_of}

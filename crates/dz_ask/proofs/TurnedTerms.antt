@@ -5,10 +5,10 @@ use Rattle.std.proofs.lemmas.Option.{slice_get_read}
 use Rattle.dz_algebra.specs.Polynomial.{Polynomial}
 use Rattle.dz_algebra.specs.Size.{Refusal}
 use Rattle.dz_rank.specs.declared.symbols.Symbol.{Symbol}
-use Rattle.dz_terms.specs.Stops.{IsStop}
-use Rattle.dz_terms.specs.declared.PolyStop.{PolyStop}
+use Rattle.dz_monomials.specs.Stops.{IsStop}
+use Rattle.dz_monomials.specs.declared.PolyStop.{PolyStop}
 use Rattle.dz_diff.specs.Operations.{Setting}
-use Rattle.dz_diff.specs.Outcome.{◌>>=◌, told_as}
+use Rattle.dz_algebra.specs.Outcome.{◌>>=◌, told_as}
 use Rattle.dz_diff.specs.State.{State}
 use Rattle.dz_step.specs.declared.Step.{Step}
 use Rattle.dz_step.specs.Step.{Reduction, Stop, refused, reduction_at}
@@ -28,7 +28,7 @@ same_there xs i x y h e f = some_same x y (sym (slice_get_read xs (length xs) i 
     some_same a b e = cc
 
 -- ---- the parts
-module _ (g : Setting) (s : State) (ts : List WorkingTerm) (i : ℕ) (h : i < length ts) (here : WorkingTerm) (there : here ≡ slice_index_or ts i here) (st : Step) (y : Reduction) (y_is : reduction_at g s here.coefficient.terms.items st ≡ Ok y) where
+module _ (g : Setting) (s : State) (ts : List WorkingTerm) (i : ℕ) (h : i < length ts) (here : WorkingTerm) (there : here ≡ slice_index_or ts i here) (st : Step) (y : Reduction) (y_is : reduction_at g s here.coefficient.terms st ≡ Ok y) where
   -- the turn at the term
   abbrev turn : Turn
   turn = turn_by ts i here st

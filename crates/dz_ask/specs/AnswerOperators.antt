@@ -1,7 +1,7 @@
 -- The operators in answers, and the signature to which they belong.
 use Rattle.std.specs.Prelude.{ℕ, List}
 use Rattle.dz_rank.specs.Symbols.{IsOperatorOf}
-use Rattle.dz_diff.specs.Lists.{AllOf}
+use Rattle.dz_monomials.specs.Lists.{AllOf}
 use Rattle.dz_step.specs.StepOperators.{StopDerivesAlong}
 use Rattle.dz_ask.specs.declared.preparing.Power.{Power}
 use Rattle.dz_ask.specs.declared.preparing.PreparedTerm.{PreparedTerm}

@@ -10,8 +10,8 @@ use Rattle.dz_algebra.specs.Parts.{leader}
 use Rattle.dz_algebra.specs.Polynomial.{Polynomial, polynomial_one, polynomial_sum, polynomial_negative, polynomial_product, scaled}
 use Rattle.dz_algebra.specs.Value.{monomial_value}
 use Rattle.dz_rank.specs.declared.symbols.Symbol.{Symbol}
-use Rattle.dz_terms.specs.Terms.{constant_polynomial}
-use Rattle.dz_diff.specs.Lists.{AllOf}
+use Rattle.dz_monomials.specs.Terms.{constant_polynomial}
+use Rattle.dz_monomials.specs.Lists.{AllOf}
 use Rattle.dz_diff.specs.Operations.{Setting}
 use Rattle.dz_diff.specs.State.{State, at_place}
 use Rattle.dz_step.specs.declared.Role.TheVariants.{Free}

@@ -6,7 +6,7 @@ use Rattle.std.specs.Cmp.Lexicographic.{slice_cmp}
 use Rattle.dz_algebra.specs.Monomial.{Monomial, monomial_cmp}
 use Rattle.dz_algebra.specs.Size.{Refusal, large}
 use Rattle.dz_algebra.specs.declared.Limit.TheVariants.{Exponent}
-use Rattle.dz_diff.specs.Outcome.{◌>>=◌}
+use Rattle.dz_algebra.specs.Outcome.{◌>>=◌}
 use Rattle.dz_step.specs.declared.Step.{Step}
 
 -- a product of powers of derivatives: a step names the derivative that its operator makes of the equation at its place

@@ -4,7 +4,7 @@ use Rattle.dz_algebra.specs.Polynomial.{Polynomial}
 use Rattle.dz_rank.specs.Rankings.{RankingValue}
 use Rattle.dz_rank.specs.declared.symbols.Symbol.{Symbol}
 use Rattle.dz_terms.specs.Entries.{IsEntry}
-use Rattle.dz_terms.specs.declared.entry.Entry.{Entry}
+use Rattle.dz_terms.specs.Entries.{EntryValue}
 use Rattle.dz_diff.specs.Operations.{setting_of}
 use Rattle.dz_diff.specs.State.{State}
 use Rattle.dz_step.specs.declared.Step.{Step}
@@ -23,12 +23,12 @@ use Rattle.dz_ask.specs.declared.preparing.Working.{Working}
 use Rattle.dz_ask.specs.declared.working.WorkingTerm.{WorkingTerm}
 
 -- the polynomials of entries
-abbrev pub polynomials_of : List Entry → List (Polynomial Symbol)
-polynomials_of es = map (λ (e : Entry). e.terms.items) es
+abbrev pub polynomials_of : List EntryValue → List (Polynomial Symbol)
+polynomials_of es = map (λ (e : EntryValue). e.terms) es
 
 -- each is an entry
-abbrev pub AreFactors : RankingValue → List Entry → Type 0
-AreFactors r es = All (λ (e : Entry). IsEntry r e.terms.items e.degrees.items) es
+abbrev pub AreFactors : RankingValue → List EntryValue → Type 0
+AreFactors r es = All (λ (e : EntryValue). IsEntry r e) es
 
 -- the factors and the terms so far
 abbrev pub working_in : Working → Prepared

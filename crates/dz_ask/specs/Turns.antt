@@ -5,7 +5,7 @@ use Rattle.dz_algebra.specs.Polynomial.{Polynomial}
 use Rattle.dz_algebra.specs.Size.{Refusal, product_answer, sum_answer}
 use Rattle.dz_algebra.specs.Symbols.{Symbols}
 use Rattle.dz_rank.specs.declared.symbols.Symbol.{Symbol}
-use Rattle.dz_diff.specs.Outcome.{◌>>=◌, told_as}
+use Rattle.dz_algebra.specs.Outcome.{◌>>=◌, told_as}
 use Rattle.dz_diff.specs.Operations.{Setting}
 use Rattle.dz_diff.specs.State.{State}
 use Rattle.dz_diff.specs.Tests.{is_zero, same}

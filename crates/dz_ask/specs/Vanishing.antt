@@ -2,7 +2,7 @@
 use Rattle.std.specs.Prelude.{◌≡◌, ◌≢◌, ◌+◌, ℕ, Bool, true, false, take, slice_get, List, [], Some}
 use Rattle.dz_algebra.specs.Polynomial.{Polynomial}
 use Rattle.dz_rank.specs.declared.symbols.Symbol.{Symbol}
-use Rattle.dz_diff.specs.Lists.{AllOf}
+use Rattle.dz_monomials.specs.Lists.{AllOf}
 use Rattle.dz_diff.specs.Operations.{Setting}
 use Rattle.dz_diff.specs.State.{State}
 use Rattle.dz_step.specs.Attempts.{IsAttemptOf, ended}

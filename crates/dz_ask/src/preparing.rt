@@ -6,7 +6,7 @@ ghost use Rattle.dz_rank.specs.Rankings.{RankingValue};
 ghost use Rattle.dz_rank.specs.declared.symbols.Symbol.{Symbol};
 ghost use Rattle.dz_poly.specs.Books.{IsKept, Lives, Means, polynomial};
 ghost use Rattle.dz_terms.specs.Entries.{IsEntry};
-ghost use Rattle.dz_terms.specs.Ranked.{symbols_under};
+ghost use Rattle.dz_monomials.specs.Ranked.{symbols_under};
 ghost use Rattle.dz_diff.specs.Operations.{setting_of};
 ghost use Rattle.dz_diff.specs.State.{State as Chain};
 ghost use Rattle.dz_diff.specs.States.{MeanAll, StandsIn, state_in};
@@ -88,7 +88,7 @@ const NO_MEMORY: TurnStop = TurnStop {
 
 /// Whether a polynomial is one.
 fn is_one(alloc: Global, ranking: &Ranking, entry: &Entry) -> Result<bool, AllocError>
-    ensures { IfOk result (λ one. IsTrue one ↔ (entry.now.terms.items ≡ ([], pos 1) ∷ [])) }
+    ensures { IfOk result (λ one. IsTrue one ↔ (entry.now.terms ≡ ([], pos 1) ∷ [])) }
 {
     let one = number(alloc, 1)?;
     Ok(same_entries(ranking, entry, &one))
@@ -102,8 +102,8 @@ fn push_factor(
     factor: Entry,
 ) -> Result<(), AllocError>
     ensures pushed { (r : RankingValue) → OnOk result (polynomials_of factors.new.items
-        ≡ with_factor (symbols_under r) factor.terms.items (polynomials_of factors.old.items)) }
-    ensures entries { (r : RankingValue) → IsEntry r factor.terms.items factor.degrees.items
+        ≡ with_factor (symbols_under r) factor.terms (polynomials_of factors.old.items)) }
+    ensures entries { (r : RankingValue) → IsEntry r factor
         → AreFactors r factors.old.items → AreFactors r factors.new.items }
 {
     if !is_one(alloc, ranking, &factor)? {
@@ -142,9 +142,9 @@ fn made(
         → t ≡ slice_index_or working.now.terms.items index t
         → turned_terms (setting_of book.now.ranking) (state_in book.now chain.now)
         (turn_by working.now.terms.items index t step)
-        ≡ Ok (x.0.factor.terms.items, terms_in x.0.terms.items)) }
+        ≡ Ok (x.0.factor.terms, terms_in x.0.terms.items)) }
     ensures factor { IfOk result (λ x.
-        IsEntry book.now.ranking x.0.factor.terms.items x.0.factor.degrees.items) }
+        IsEntry book.now.ranking x.0.factor) }
     ensures entries { IfOk result (λ x. AreEntries book.now.ranking x.0.terms.items) }
     ensures left { IfOk result (λ x.
         x.1 + 1 + coefficient_terms (terms_in x.0.terms.items) ≡ working.now.left) }
@@ -292,8 +292,8 @@ fn powers(alloc: Global, product: &[(Step, u16)]) -> Result<Vec<Power>, AllocErr
 
 /// Puts a copy of a polynomial into the book.
 fn keep_copy(book: &mut Book, entry: &Entry) -> Result<Poly, AllocError>
-    requires { IsEntry book.old.ranking entry.now.terms.items entry.now.degrees.items }
-    ensures means { IfOk result (λ p. Means book.new p entry.now.terms.items) }
+    requires { IsEntry book.old.ranking entry.now }
+    ensures means { IfOk result (λ p. Means book.new p entry.now.terms) }
     ensures kept { IsKept book.old book.new }
 {
     let copy = copied(book.allocator(), entry)?;
@@ -317,11 +317,10 @@ fn kept_polys(alloc: Global, book: &mut Book, entries: &[Entry]) -> Result<Vec<P
 
 /// Puts the polynomial of a term into the book.
 fn kept_term(alloc: Global, book: &mut Book, term: &WorkingTerm) -> Result<PreparedTerm, AllocError>
-    requires { IsEntry book.old.ranking term.now.coefficient.terms.items
-        term.now.coefficient.degrees.items }
+    requires { IsEntry book.old.ranking term.now.coefficient }
     ensures live { IfOk result (λ t. Lives book.new t.coefficient) }
     ensures means { IfOk result (λ t. term_in book.new t
-        ≡ (term.now.product.items, term.now.coefficient.terms.items)) }
+        ≡ (term.now.product.items, term.now.coefficient.terms)) }
     ensures kept { IsKept book.old book.new }
 {
     let product = powers(alloc, term.product.as_slice())?;

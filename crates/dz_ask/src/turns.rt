@@ -66,9 +66,9 @@ pub(crate) fn turned(
     requires inside { i < length terms.now }
     ensures ok { IfOk result (λ x. (t : WorkingTerm) → t ≡ slice_index_or terms.now i t
         → turned_terms (setting_of book.now.ranking) (state_in book.now chain.now)
-        (turn_by terms.now i t step) ≡ Ok (x.factor.terms.items, terms_in x.terms.items)) }
+        (turn_by terms.now i t step) ≡ Ok (x.factor.terms, terms_in x.terms.items)) }
     ensures factor { IfOk result (λ x.
-        IsEntry book.now.ranking x.factor.terms.items x.factor.degrees.items) }
+        IsEntry book.now.ranking x.factor) }
     ensures entries { IfOk result (λ x. AreEntries book.now.ranking x.terms.items) }
     ensures refused { IfErr result (λ stop. (t : WorkingTerm) → t ≡ slice_index_or terms.now i t
         → IsStepStop stop (turned_terms (setting_of book.now.ranking) (state_in book.now chain.now)

@@ -3,9 +3,10 @@
 ghost use Rattle.std.specs.Prelude.{◌≡◌, ◌≤◌, ◌+◌, ◌++◌, [], ◌∷◌, Ok, IfOk, IfErr, IfSome, IfNone};
 ghost use Rattle.dz_algebra.specs.Size.{product_answer, sum_answer};
 ghost use Rattle.dz_rank.specs.Rankings.{RankingValue};
+ghost use Rattle.dz_terms.specs.Answers.{Answers};
 ghost use Rattle.dz_terms.specs.Entries.{IsEntry};
-ghost use Rattle.dz_terms.specs.Ranked.{symbols_under};
-ghost use Rattle.dz_terms.specs.Stops.{IsStop};
+ghost use Rattle.dz_monomials.specs.Ranked.{symbols_under};
+ghost use Rattle.dz_monomials.specs.Stops.{IsStop};
 ghost use Rattle.dz_ask.specs.Turns.{added, coefficient_terms, multiplied, nonzero_terms};
 ghost use Rattle.dz_ask.specs.Working.{AreEntries, terms_in};
 
@@ -43,16 +44,15 @@ fn multiplied_term(
     by: &Entry,
     term: &WorkingTerm,
 ) -> Result<WorkingTerm, PolyStop>
-    requires by { IsEntry ranking.now by.now.terms.items by.now.degrees.items }
-    requires coefficient { IsEntry ranking.now term.now.coefficient.terms.items
-        term.now.coefficient.degrees.items }
+    requires by { IsEntry ranking.now by.now }
+    requires coefficient { IsEntry ranking.now term.now.coefficient }
     ensures product { IfOk result (λ x. x.product.items ≡ term.now.product.items) }
-    ensures ok { IfOk result (λ x. product_answer (symbols_under ranking.now) by.now.terms.items
-        term.now.coefficient.terms.items ≡ Ok x.coefficient.terms.items) }
+    ensures ok { IfOk result (λ x. product_answer (symbols_under ranking.now) by.now.terms
+        term.now.coefficient.terms ≡ Ok x.coefficient.terms) }
     ensures entry { IfOk result (λ x.
-        IsEntry ranking.now x.coefficient.terms.items x.coefficient.degrees.items) }
+        IsEntry ranking.now x.coefficient) }
     ensures refused { IfErr result (λ stop. IsStop stop (product_answer (symbols_under ranking.now)
-        by.now.terms.items term.now.coefficient.terms.items)) }
+        by.now.terms term.now.coefficient.terms)) }
 {
     let coefficient = product(alloc, ranking, by, &term.coefficient)?;
     let product = copied_product(alloc, term.product.as_slice())?;
@@ -69,13 +69,13 @@ pub(crate) fn multiplied(
     by: &Entry,
     terms: &[WorkingTerm],
 ) -> Result<Vec<WorkingTerm>, PolyStop>
-    requires by { IsEntry ranking.now by.now.terms.items by.now.degrees.items }
+    requires by { IsEntry ranking.now by.now }
     requires terms { AreEntries ranking.now terms.now }
-    ensures ok { IfOk result (λ all. multiplied (symbols_under ranking.now) by.now.terms.items
+    ensures ok { IfOk result (λ all. multiplied (symbols_under ranking.now) by.now.terms
         (terms_in terms.now) ≡ Ok (terms_in all.items)) }
     ensures entries { IfOk result (λ all. AreEntries ranking.now all.items) }
     ensures refused { IfErr result (λ stop. IsStop stop (multiplied (symbols_under ranking.now)
-        by.now.terms.items (terms_in terms.now))) }
+        by.now.terms (terms_in terms.now))) }
 {
     let mut all = Vec::with_capacity(alloc, terms.len())?;
     for term in terms {
@@ -85,6 +85,7 @@ pub(crate) fn multiplied(
     Ok(all)
 }
 
+#[tactic(auto, using(dz_terms::proofs::Answered::answered, dz_terms::proofs::Answered::stopped))]
 /// The sum of a coefficient and a shift.
 fn shifted(
     alloc: Global,
@@ -92,14 +93,10 @@ fn shifted(
     coefficient: &Entry,
     shift: &Entry,
 ) -> Result<Entry, PolyStop>
-    requires coefficient { IsEntry ranking.now coefficient.now.terms.items
-        coefficient.now.degrees.items }
-    requires shift { IsEntry ranking.now shift.now.terms.items shift.now.degrees.items }
-    ensures ok { IfOk result (λ x. sum_answer (symbols_under ranking.now)
-        coefficient.now.terms.items shift.now.terms.items ≡ Ok x.terms.items) }
-    ensures entry { IfOk result (λ x. IsEntry ranking.now x.terms.items x.degrees.items) }
-    ensures refused { IfErr result (λ stop. IsStop stop (sum_answer (symbols_under ranking.now)
-        coefficient.now.terms.items shift.now.terms.items)) }
+    requires coefficient { IsEntry ranking.now coefficient.now }
+    requires shift { IsEntry ranking.now shift.now }
+    ensures { Answers ranking.now result
+        (sum_answer (symbols_under ranking.now) coefficient.now.terms shift.now.terms) }
 {
     let sum = sum(alloc, ranking, coefficient, Sign::Plus, shift)?;
     Ok(sum)
@@ -112,14 +109,14 @@ fn new_term(
     product: Vec<(Step, u16)>,
     shift: &Entry,
 ) -> Result<WorkingTerm, PolyStop>
-    requires { IsEntry ranking.now shift.now.terms.items shift.now.degrees.items }
+    requires { IsEntry ranking.now shift.now }
     ensures product { IfOk result (λ x. x.product.items ≡ product.items) }
     ensures ok { IfOk result (λ x. sum_answer (symbols_under ranking.now) []
-        shift.now.terms.items ≡ Ok x.coefficient.terms.items) }
+        shift.now.terms ≡ Ok x.coefficient.terms) }
     ensures entry { IfOk result (λ x.
-        IsEntry ranking.now x.coefficient.terms.items x.coefficient.degrees.items) }
+        IsEntry ranking.now x.coefficient) }
     ensures refused { IfErr result (λ stop. IsStop stop (sum_answer (symbols_under ranking.now) []
-        shift.now.terms.items)) }
+        shift.now.terms)) }
 {
     let coefficient = shifted(alloc, ranking, &number(alloc, 0)?, shift)?;
     Ok(WorkingTerm {
@@ -136,13 +133,13 @@ pub(crate) fn added(
     product: Vec<(Step, u16)>,
     shift: &Entry,
 ) -> Result<Vec<WorkingTerm>, PolyStop>
-    requires shift { IsEntry ranking.now shift.now.terms.items shift.now.degrees.items }
+    requires shift { IsEntry ranking.now shift.now }
     requires terms { AreEntries ranking.now terms.items }
     ensures ok { IfOk result (λ all. added (symbols_under ranking.now) product.items
-        shift.now.terms.items (terms_in terms.items) ≡ Ok (terms_in all.items)) }
+        shift.now.terms (terms_in terms.items) ≡ Ok (terms_in all.items)) }
     ensures entries { IfOk result (λ all. AreEntries ranking.now all.items) }
     ensures refused { IfErr result (λ stop. IsStop stop (added (symbols_under ranking.now)
-        product.items shift.now.terms.items (terms_in terms.items))) }
+        product.items shift.now.terms (terms_in terms.items))) }
 {
     let mut terms = terms;
     for i in 0..terms.len() {

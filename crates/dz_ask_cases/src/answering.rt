@@ -1,16 +1,18 @@
 //! The answers to one question.
 
 ghost use Rattle.std.specs.Prelude.{◌≡◌, All};
-ghost use Rattle.dz_poly.specs.Books.{IsKept, Lives};
+ghost use Rattle.dz_poly.specs.Books.{Lives};
 ghost use Rattle.dz_diff.specs.States.{LiveAll, StandsIn};
 ghost use Rattle.dz_syntax.specs.Names.{signature_of};
 ghost use Rattle.dz_ask.specs.Attempts.{LiveTerms, LivesPreparation};
 
 use crate::texts::{write_number, write_product, write_run, write_stop};
-use dz_ask::{Preparation, PreparedTerm, VanishStop, normal_form, prepare, vanishes};
+use dz_ask::{
+    Normal, Preparation, PrepareAttempt, PreparedTerm, VanishStop, normal_form, prepare, vanishes,
+};
 use dz_form::write_poly;
 use dz_poly::{Book, Poly};
-use dz_step::State;
+use dz_step::{Attempt, State};
 use dz_syntax::Names;
 use std::alloc::{AllocError, Global};
 
@@ -34,39 +36,31 @@ pub(crate) fn tell_vanishing(
             into.extend_from_slice(b"chain ")?;
             write_number(into, chain)?;
             into.extend_from_slice(b"\n")?;
-            write_run(into, &attempt.run)?;
-            write_stop(into, attempt.stop)?;
-            into.extend_from_slice(b"\n")
+            write_attempt(&attempt, into)
         }
     }
 }
 
-/// Appends the normal form of a polynomial by a chain, whose remainder stays in the book.
-fn told_normal(
-    alloc: Global,
-    book: &mut Book,
+/// Appends a normal form.
+fn write_normal(
+    book: &Book,
     names: &Names,
-    f: Poly,
-    chain: &State,
-    budget: u32,
+    normal: &Normal,
     into: &mut Vec<u8>,
 ) -> Result<(), AllocError>
-    requires f { Lives book.old f }
-    requires chain { StandsIn book.old chain.now }
-    requires signature { signature_of names.now ≡ book.old.ranking.signature }
-    ensures { IsKept book.old book.new }
+    requires lives { Lives book.now normal.now.remainder }
+    requires signature { signature_of names.now ≡ book.now.ranking.signature }
 {
-    match normal_form(alloc, book, f, chain, budget) {
-        Ok(normal) => {
-            write_run(into, &normal.run)?;
-            into.extend_from_slice(b"remainder ")?;
-            write_poly(book, normal.remainder, names, into)?;
-        }
-        Err(attempt) => {
-            write_run(into, &attempt.run)?;
-            write_stop(into, attempt.stop)?;
-        }
-    }
+    write_run(into, &normal.run)?;
+    into.extend_from_slice(b"remainder ")?;
+    write_poly(book, normal.remainder, names, into)?;
+    into.extend_from_slice(b"\n")
+}
+
+/// Appends a run that stops.
+fn write_attempt(attempt: &Attempt, into: &mut Vec<u8>) -> Result<(), AllocError> {
+    write_run(into, &attempt.run)?;
+    write_stop(into, attempt.stop)?;
     into.extend_from_slice(b"\n")
 }
 
@@ -123,31 +117,21 @@ fn write_preparation(
     write_terms(book, names, &preparation.terms, into)
 }
 
-/// Appends the preparation of a polynomial by a chain, whose polynomials stay in the book.
-fn told_preparation(
-    alloc: Global,
-    book: &mut Book,
+/// Appends a preparation that stops.
+fn write_prepare_attempt(
+    book: &Book,
     names: &Names,
-    f: Poly,
-    chain: &State,
-    budget: u32,
+    attempt: &PrepareAttempt,
     into: &mut Vec<u8>,
 ) -> Result<(), AllocError>
-    requires f { Lives book.old f }
-    requires chain { StandsIn book.old chain.now }
-    requires signature { signature_of names.now ≡ book.old.ranking.signature }
-    ensures { IsKept book.old book.new }
+    requires lives { LivesPreparation book.now attempt.now.partial }
+    requires signature { signature_of names.now ≡ book.now.ranking.signature }
 {
-    match prepare(alloc, book, f, chain, budget) {
-        Ok(preparation) => write_preparation(book, names, &preparation, into),
-        Err(attempt) => {
-            write_preparation(book, names, &attempt.partial, into)?;
-            write_stop(into, attempt.stop)?;
-            into.extend_from_slice(b" at")?;
-            write_product(into, &attempt.product)?;
-            into.extend_from_slice(b"\n")
-        }
-    }
+    write_preparation(book, names, &attempt.partial, into)?;
+    write_stop(into, attempt.stop)?;
+    into.extend_from_slice(b" at")?;
+    write_product(into, &attempt.product)?;
+    into.extend_from_slice(b"\n")
 }
 
 /// What is told by one chain.
@@ -175,8 +159,14 @@ fn tell_by_chain(
 {
     let mark = book.mark();
     let told = match what {
-        ByChain::Normal => told_normal(alloc, book, names, f, chain, budget, into),
-        ByChain::Preparation => told_preparation(alloc, book, names, f, chain, budget, into),
+        ByChain::Normal => match normal_form(alloc, book, f, chain, budget) {
+            Ok(normal) => write_normal(book, names, &normal, into),
+            Err(attempt) => write_attempt(&attempt, into),
+        },
+        ByChain::Preparation => match prepare(alloc, book, f, chain, budget) {
+            Ok(preparation) => write_preparation(book, names, &preparation, into),
+            Err(attempt) => write_prepare_attempt(book, names, &attempt, into),
+        },
     };
     book.restore(mark);
     told

@@ -1,13 +1,13 @@
-//! What programs of cases share: the lines of cases and their words, systems with their books, and
-//! the names of rules and limits.
+//! What programs of cases share: their input and output, the lines of cases and their words, and
+//! systems with their books.
 #![tactic(auto)]
 
-mod names;
+mod programs;
 mod systems;
 mod words;
 
 use dz_poly::PolyStop;
-pub use names::rule_name;
+pub use programs::answer_input;
 use std::alloc::{AllocError, AllocFailed};
 pub use systems::{book_for, read_case, system_of, values};
 pub use words::{cases_of, number, place, split_at_first};

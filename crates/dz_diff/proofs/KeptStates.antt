@@ -6,7 +6,7 @@ use Rattle.dz_rank.specs.declared.symbols.Symbol.{Symbol}
 use Rattle.dz_poly.specs.Books.{BookValue, IsKept, Lives}
 use Rattle.dz_poly.proofs.Books.{kept_polynomial, lives_on}
 use Rattle.std.specs.List.{IsDistinct}
-use Rattle.dz_terms.specs.Ranked.{symbols_under}
+use Rattle.dz_monomials.specs.Ranked.{symbols_under}
 use Rattle.dz_diff.specs.States.{IsStateOf, LiveAll, StandsIn, StateValue, polynomials, state_in}
 use Rattle.dz_diff.specs.Tests.{Polynomials}
 

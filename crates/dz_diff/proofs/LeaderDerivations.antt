@@ -23,8 +23,8 @@ use Rattle.dz_rank.specs.declared.symbols.Operator.{Operator}
 use Rattle.dz_rank.specs.declared.symbols.Symbol.{Symbol}
 use Rattle.dz_rank.specs.declared.symbols.Symbol.TheVariants.{Independent, Derivative}
 use Rattle.dz_rank.proofs.Raising.{grows_by_one, keeps_order_by_one}
-use Rattle.dz_terms.specs.Ranked.{symbol_rate}
-use Rattle.dz_terms.proofs.SymbolLaws.{ranking_order}
+use Rattle.dz_monomials.specs.Ranked.{symbol_rate}
+use Rattle.dz_monomials.proofs.SymbolLaws.{ranking_order}
 use Rattle.dz_diff.proofs.MarkedSums.{EachMonomial, each-append, each_collect, marked, total_coefficient, total_each, total_same, Free, exponent_free, exponent_below, exponent_put, marked_below, marked_free, marked_put}
 
 -- an order of symbols in which derivatives are above independents, and derivation raises and keeps the order

@@ -13,10 +13,10 @@ use Rattle.dz_rank.specs.Rankings.{RankingValue, ranking_cmp}
 use Rattle.dz_rank.specs.Symbols.{is_derivative}
 use Rattle.dz_rank.specs.declared.symbols.Symbol.{Symbol}
 use Rattle.dz_rank.specs.declared.symbols.Symbol.TheVariants.{Independent, Derivative}
-use Rattle.dz_terms.specs.Entries.{IsEntry}
-use Rattle.dz_terms.specs.Ranked.{symbols_under}
-use Rattle.dz_terms.proofs.Multiples.{keys_degrees}
-use Rattle.dz_terms.proofs.SymbolLaws.{ranking_order}
+use Rattle.dz_monomials.specs.Keeping.{IsTabled}
+use Rattle.dz_monomials.specs.Ranked.{symbols_under}
+use Rattle.dz_monomials.proofs.Multiples.{keys_degrees}
+use Rattle.dz_monomials.proofs.SymbolLaws.{ranking_order}
 
 -- a derivative is greater than an independent
 above : (r : RankingValue) (s t : Symbol) → is_derivative s ≡ true → is_derivative t ≡ false → ranking_cmp r s t ≡ Greater
@@ -36,7 +36,7 @@ first_derivative [] = None
 first_derivative (e ∷ m) = derivative_alone e.0
 
 -- the greatest symbol tells the leader
-leader_in_table : (r : RankingValue) (p : Polynomial Symbol) (table : Monomial Symbol) → IsEntry r p table → leader (symbols_under r) p ≡ first_derivative table
+leader_in_table : (r : RankingValue) (p : Polynomial Symbol) (table : Monomial Symbol) → IsTabled r p table → leader (symbols_under r) p ≡ first_derivative table
 leader_in_table r p table h = by_table table (sym (ap (map (λ e. e.0)) h.degrees_are ∙ keys_degrees (ranking_order r) p))
   where
     by_table : (table : Monomial Symbol) → symbols (ranking_cmp r) (map (λ t. t.0) p) ≡ map (λ e. e.0) table → leader (symbols_under r) p ≡ first_derivative table
@@ -44,7 +44,7 @@ leader_in_table r p table h = by_table table (sym (ap (map (λ e. e.0)) h.degree
     by_table ((Independent i, e) ∷ m) list = ground_no_leader (symbols_under r) p (ground_first (symbols_under r) (ranking_order r) (above r) p (Independent i) (map (λ e. e.0) m) list refl)
     by_table ((Derivative u t, e) ∷ m) list = leader_first (symbols_under r) (ranking_order r) p (Derivative u t) (map (λ e. e.0) m) h.keepable.canonical list refl
 
-module _ (r : RankingValue) (p : Polynomial Symbol) (table : Monomial Symbol) (h : IsEntry r p table) where
+module _ (r : RankingValue) (p : Polynomial Symbol) (table : Monomial Symbol) (h : IsTabled r p table) where
   -- no symbol occurs
   pub no_symbol_leads : true ≡ (length table == 0) → None ≡ leader (symbols_under r) p
   no_symbol_leads e = sym (leader_in_table r p table h ∙ by_table table e)

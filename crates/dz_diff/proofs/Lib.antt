@@ -1,4 +1,3 @@
-pub mod Answers
 pub mod Places
 pub mod SameTests
 pub mod Goodness
@@ -7,11 +6,6 @@ pub mod Degrees
 pub mod LeaderDerivations
 pub mod OperatorLeaders
 pub mod Overs
-pub mod SplitRates
-pub mod RowTerms
-pub mod RateLists
-pub mod RateTables
-pub mod RowPieces
 pub mod OperatorAnswers
 pub mod Leading
 pub mod KeptStates

@@ -10,7 +10,7 @@ use Rattle.dz_algebra.proofs.Leaders.{no_leader_ground}
 use Rattle.dz_rank.specs.declared.symbols.Symbol.{Symbol}
 use Rattle.dz_rank.specs.Rankings.{RankingValue}
 use Rattle.dz_poly.specs.Books.{BookValue, polynomial}
-use Rattle.dz_terms.specs.Ranked.{symbols_under}
+use Rattle.dz_monomials.specs.Ranked.{symbols_under}
 use Rattle.dz_diff.specs.State.{without_place}
 use Rattle.dz_diff.specs.States.{polynomials}
 use Rattle.dz_diff.specs.Tests.{Polynomials, is_member, is_unit, is_zero, same}

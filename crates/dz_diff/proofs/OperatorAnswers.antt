@@ -4,10 +4,10 @@ use Rattle.dz_algebra.specs.Polynomial.{Polynomial}
 use Rattle.dz_algebra.specs.Size.{Refusal, wide, large, derivation_answer}
 use Rattle.dz_algebra.specs.Symbols.{Symbols}
 use Rattle.dz_rank.specs.declared.symbols.Symbol.{Symbol}
-use Rattle.dz_terms.specs.Stops.{IsStop}
-use Rattle.dz_terms.specs.declared.PolyStop.{PolyStop}
+use Rattle.dz_monomials.specs.Stops.{IsStop}
+use Rattle.dz_monomials.specs.declared.PolyStop.{PolyStop}
 use Rattle.dz_diff.specs.Operations.{iterated_answer, derivations_answer}
-use Rattle.dz_diff.specs.Outcome.{◌>>=◌}
+use Rattle.dz_algebra.specs.Outcome.{◌>>=◌}
 
 -- what follows a refusal is the refusal
 refusal_stays : {A B : Type 0} (x : Result A Refusal) (f : A → Result B Refusal) (stop : PolyStop) → IsStop stop x → IsStop stop (x >>= f)

@@ -27,11 +27,11 @@ use Rattle.dz_rank.specs.declared.symbols.Operator.{Operator}
 use Rattle.dz_rank.specs.declared.symbols.Symbol.{Symbol}
 use Rattle.dz_rank.specs.declared.symbols.Symbol.TheVariants.{Derivative}
 use Rattle.dz_rank.proofs.Raising.{grows}
-use Rattle.dz_terms.specs.Ranked.{symbol_rate, symbols_under}
-use Rattle.dz_diff.specs.Lists.{AllOf}
+use Rattle.dz_monomials.specs.Ranked.{symbol_rate, symbols_under}
+use Rattle.dz_monomials.specs.Lists.{AllOf}
 use Rattle.dz_diff.specs.Operators.{is_proper}
 use Rattle.dz_diff.specs.Operations.{iterated_answer, derivations_answer, operator_answer, setting_of}
-use Rattle.dz_diff.proofs.Answers.{bind_ok}
+use Rattle.dz_algebra.proofs.Outcomes.{bind_ok}
 use Rattle.dz_diff.proofs.MarkedSums.{EachMonomial, skipped, marked, total_coefficient, total_each, Free, marked_free, marked_top}
 use Rattle.dz_diff.proofs.LeaderDerivations.{IsRaising, ranking_raises, IsUnder, length_raised, coefficients_are, total_empty, coefficient_of-derivation, derivation_linear}
 

@@ -6,7 +6,7 @@ use Rattle.dz_rank.specs.Rankings.{RankingValue}
 use Rattle.dz_rank.specs.Symbols.{BelongsTo}
 use Rattle.dz_rank.specs.declared.symbols.Symbol.{Symbol}
 use Rattle.dz_rank.specs.declared.symbols.Symbol.TheVariants.{Independent, Derivative}
-use Rattle.dz_diff.specs.Lists.{AllOf}
+use Rattle.dz_monomials.specs.Lists.{AllOf}
 use Rattle.dz_diff.specs.Over.{IsOver}
 use Rattle.dz_diff.specs.Tests.{Polynomials}
 use Rattle.dz_diff.proofs.Goodness.{Good, InRange}

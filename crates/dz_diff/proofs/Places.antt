@@ -1,7 +1,7 @@
 -- Facts of all members of a list, and places.
 use Rattle.std.proofs.Common.{◌≡◌, ◌⊎◌, inl, inr, ℕ, zero, suc, Bool, true, false, cond, List, [], ◌∷◌, ◌++◌, refl, ap, subst, Some}
 use Rattle.dz_diff.specs.State.{at_place, without_place, replaced}
-use Rattle.dz_diff.specs.Lists.{AllOf, SomeOf}
+use Rattle.dz_monomials.specs.Lists.{AllOf, SomeOf}
 
 module _ {A : Type 0} (P : A → Type 0) where
   -- what stands at a place, and the others

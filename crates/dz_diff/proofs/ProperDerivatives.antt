@@ -18,8 +18,8 @@ use Rattle.dz_rank.specs.Symbols.{derivative_by, is_derivative}
 use Rattle.dz_rank.specs.declared.symbols.Operator.{Operator}
 use Rattle.dz_rank.specs.declared.symbols.Symbol.{Symbol}
 use Rattle.dz_rank.specs.declared.symbols.Symbol.TheVariants.{Independent, Derivative}
-use Rattle.dz_terms.specs.Ranked.{symbols_under}
-use Rattle.dz_terms.proofs.SymbolLaws.{ranking_order}
+use Rattle.dz_monomials.specs.Ranked.{symbols_under}
+use Rattle.dz_monomials.proofs.SymbolLaws.{ranking_order}
 use Rattle.dz_diff.specs.Laws.{IsLinearIn, IsProperDerivative}
 use Rattle.dz_diff.proofs.LeaderBounds.{IsTop, leader_all, leader_in, leader_is_one, leader_regular, most_degree, under_leader}
 use Rattle.dz_diff.proofs.LeaderDerivations.{IsRegular, IsUnder}

@@ -10,12 +10,12 @@ use Rattle.dz_algebra.specs.Symbols.{Symbols}
 use Rattle.dz_algebra.proofs.Orders.{same_monomial}
 use Rattle.dz_rank.specs.declared.symbols.Symbol.{Symbol}
 use Rattle.dz_rank.specs.Rankings.{RankingValue}
-use Rattle.dz_terms.specs.Ranked.{symbols_under}
-use Rattle.dz_terms.proofs.SameTerms.{other_pair}
-use Rattle.dz_terms.proofs.SymbolLaws.{ranking_order}
-use Rattle.dz_diff.specs.Lists.{AllOf}
+use Rattle.dz_monomials.specs.Ranked.{symbols_under}
+use Rattle.dz_monomials.proofs.SameTerms.{other_pair}
+use Rattle.dz_monomials.proofs.SymbolLaws.{ranking_order}
+use Rattle.dz_monomials.specs.Lists.{AllOf}
 use Rattle.dz_diff.specs.Tests.{Polynomials, is_equal, same_whole, same, is_member}
-use Rattle.dz_diff.proofs.Answers.{both, either}
+use Rattle.dz_algebra.proofs.Outcomes.{both, either}
 
 -- what is equal by the test is Equal
 pub equal_is : (o : Ordering) → is_equal o ≡ true → o ≡ Equal

@@ -1,10 +1,7 @@
-pub mod Outcome
 pub mod Tests
 pub mod Operators
 pub mod Operations
 pub mod State
-pub mod Lists
 pub mod Over
-pub mod Rows
 pub mod States
 pub mod Laws

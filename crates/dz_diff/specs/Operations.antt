@@ -6,8 +6,8 @@ use Rattle.dz_algebra.specs.Symbols.{Symbols}
 use Rattle.dz_rank.specs.Rankings.{RankingValue}
 use Rattle.dz_rank.specs.declared.symbols.Operator.{Operator}
 use Rattle.dz_rank.specs.declared.symbols.Symbol.{Symbol}
-use Rattle.dz_terms.specs.Ranked.{symbols_under}
-use Rattle.dz_diff.specs.Outcome.{◌>>=◌}
+use Rattle.dz_monomials.specs.Ranked.{symbols_under}
+use Rattle.dz_algebra.specs.Outcome.{◌>>=◌}
 
 -- what a computation is over: the symbols in their order, and the number of independents
 pub record Setting : Type 0 where

@@ -5,7 +5,7 @@ use Rattle.dz_algebra.specs.Norm.{norm}
 use Rattle.dz_algebra.specs.Symbols.{Symbols}
 use Rattle.dz_rank.specs.declared.symbols.Symbol.{Symbol}
 use Rattle.dz_poly.specs.Books.{BookValue, Lives, polynomial}
-use Rattle.dz_diff.specs.Lists.{AllOf}
+use Rattle.dz_monomials.specs.Lists.{AllOf}
 use Rattle.dz_diff.specs.Tests.{Polynomials, has_unit, has_zero, same}
 use Rattle.dz_diff.specs.State.{State, limit_passed}
 

@@ -2,17 +2,13 @@
 //! book, and the states that are worked on.
 #![tactic(auto)]
 
-mod derivations;
 mod differentiating;
 pub mod laws;
 mod members;
 mod operators;
 mod parts;
-mod rates;
-mod rows;
 mod state;
 
-pub use derivations::{derivative, partial_derivative};
 pub use differentiating::{apply, differentiate};
 pub use members::{is_among, is_unit, norm_entry};
 pub use operators::applied;

@@ -1,16 +1,16 @@
 //! Derivation operators on the terms of polynomials.
 
-ghost use Rattle.std.specs.Prelude.{◌≡◌, ◌<◌, Ok, IfOk, IfErr};
+ghost use Rattle.std.specs.Prelude.{◌<◌, Ok};
+ghost use Rattle.dz_terms.specs.Answers.{Answers};
 ghost use Rattle.dz_terms.specs.Entries.{IsEntry};
-ghost use Rattle.dz_terms.specs.Ranked.{symbols_under};
-ghost use Rattle.dz_terms.specs.Stops.{IsStop};
+ghost use Rattle.dz_monomials.specs.Ranked.{symbols_under};
 ghost use Rattle.dz_diff.specs.Operations.{iterated_answer, operator_answer, setting_of};
 
-use crate::derivations::derivative;
 use dz_rank::{Operator, Ranking};
-use dz_terms::{Entry, PolyStop, copied};
+use dz_terms::{Entry, PolyStop, copied, derivative};
 use std::alloc::Global;
 
+#[tactic(auto, using(dz_terms::proofs::Answered::answered, dz_terms::proofs::Answered::stopped))]
 /// The derivative by the independent with a number, taken so often.
 fn iterated(
     alloc: Global,
@@ -19,13 +19,10 @@ fn iterated(
     i: u8,
     times: u8,
 ) -> Result<Entry, PolyStop>
-    requires entry { IsEntry ranking.now entry.terms.items entry.degrees.items }
+    requires entry { IsEntry ranking.now entry }
     requires within { i < ranking.now.signature.independents }
-    ensures ok { IfOk result (λ x. iterated_answer (symbols_under ranking.now) i times
-        entry.terms.items ≡ Ok x.terms.items) }
-    ensures entry { IfOk result (λ x. IsEntry ranking.now x.terms.items x.degrees.items) }
-    ensures refused { IfErr result (λ e. IsStop e
-        (iterated_answer (symbols_under ranking.now) i times entry.terms.items)) }
+    ensures { Answers ranking.now result
+        (iterated_answer (symbols_under ranking.now) i times entry.terms) }
 {
     let mut entry = entry;
     for _time in 0..times {
@@ -34,6 +31,7 @@ fn iterated(
     Ok(entry)
 }
 
+#[tactic(auto, using(dz_terms::proofs::Answered::answered, dz_terms::proofs::Answered::stopped))]
 /// The derivative by an operator, the first independent's derivations first; the polynomial itself
 /// where it takes none.
 pub fn applied(
@@ -42,12 +40,9 @@ pub fn applied(
     entry: &Entry,
     operator: Operator,
 ) -> Result<Entry, PolyStop>
-    requires { IsEntry ranking.now entry.now.terms.items entry.now.degrees.items }
-    ensures ok { IfOk result (λ x. operator_answer (setting_of ranking.now) operator
-        entry.now.terms.items ≡ Ok x.terms.items) }
-    ensures entry { IfOk result (λ x. IsEntry ranking.now x.terms.items x.degrees.items) }
-    ensures refused { IfErr result (λ e. IsStop e
-        (operator_answer (setting_of ranking.now) operator entry.now.terms.items)) }
+    requires { IsEntry ranking.now entry.now }
+    ensures { Answers ranking.now result
+        (operator_answer (setting_of ranking.now) operator entry.now.terms) }
 {
     let independents = ranking.signature().independents;
     let mut answer = copied(alloc, entry)?;

@@ -6,23 +6,22 @@ ghost use Rattle.dz_algebra.specs.Size.{separant_answer};
 ghost use Rattle.dz_poly.specs.Books.{Gives, IsAdded, IsKept, Lives, Means, polynomial};
 ghost use Rattle.dz_rank.specs.Rankings.{RankingValue, ranking_cmp};
 ghost use Rattle.dz_terms.specs.Entries.{IsEntry};
-ghost use Rattle.dz_terms.specs.Ranked.{symbols_under};
-ghost use Rattle.dz_terms.specs.declared.PolyStop.TheVariants.{Memory};
+ghost use Rattle.dz_monomials.specs.Ranked.{symbols_under};
+ghost use Rattle.dz_monomials.specs.declared.PolyStop.TheVariants.{Memory};
 
-use crate::derivations::partial_derivative;
 use dz_poly::{Book, Poly, PolyStop};
 use dz_rank::{Ranking, Symbol};
-use dz_terms::{Entry, coefficient_entry, exponent_of};
+use dz_terms::{Entry, coefficient_entry, partial_derivative};
 use std::alloc::{AllocError, Global};
 
 /// The leader, and `None` where no derivative occurs.
 ///
 /// Every derivative is greater than every independent, so the greatest symbol tells.
 pub fn leader_of(entry: &Entry) -> Option<Symbol>
-    ensures { (r : RankingValue) → IsEntry r entry.now.terms.items entry.now.degrees.items
-        → result ≡ leader (symbols_under r) entry.now.terms.items }
+    ensures { (r : RankingValue) → IsEntry r entry.now
+        → result ≡ leader (symbols_under r) entry.now.terms }
 {
-    let table = entry.degrees.as_slice();
+    let table = entry.symbol_degrees();
     if table.is_empty() {
         return None;
     }
@@ -32,7 +31,6 @@ pub fn leader_of(entry: &Entry) -> Option<Symbol>
     }
 }
 
-#[tactic(auto, using(dz_terms::proofs::EntryFacts::table_is_monomial, dz_terms::proofs::EntryFacts::degree_stands,))]
 /// The initial by a symbol: the coefficient of its highest power.
 pub fn initial_of(
     alloc: Global,
@@ -40,13 +38,12 @@ pub fn initial_of(
     entry: &Entry,
     symbol: Symbol,
 ) -> Result<Entry, AllocError>
-    requires { IsEntry ranking.now entry.now.terms.items entry.now.degrees.items }
-    ensures terms { IfOk result (λ all. all.terms.items
-        ≡ initial (ranking_cmp ranking.now) symbol entry.now.terms.items) }
-    ensures entry { IfOk result (λ all.
-        IsEntry ranking.now all.terms.items all.degrees.items) }
+    requires { IsEntry ranking.now entry.now }
+    ensures terms { IfOk result (λ all. all.terms
+        ≡ initial (ranking_cmp ranking.now) symbol entry.now.terms) }
+    ensures entry { IfOk result (λ all. IsEntry ranking.now all) }
 {
-    let degree = exponent_of(ranking, entry.degrees.as_slice(), symbol);
+    let degree = entry.degree(ranking, symbol);
     coefficient_entry(alloc, ranking, entry, symbol, degree)
 }
 

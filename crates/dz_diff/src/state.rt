@@ -31,7 +31,7 @@ impl Model for State {
 impl State {
     ghost use Rattle.std.specs.Prelude.{◌≡◌, ◌≤◌, ◌+◌, length};
     ghost use Rattle.dz_diff.specs.States.{IsStateOf, StandsIn, state_in};
-    ghost use Rattle.dz_terms.specs.Ranked.{symbols_under};
+    ghost use Rattle.dz_monomials.specs.Ranked.{symbols_under};
 
     /// The state with these lists, which have the facts of a state.
     pub fn new(book: &Book, equations: Vec<Poly>, inequations: Vec<Poly>, splits: u16) -> State

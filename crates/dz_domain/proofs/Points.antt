@@ -11,7 +11,7 @@ use Rattle.dz_algebra.proofs.DomainValues.{derivative_of_zero}
 use Rattle.dz_rank.specs.declared.symbols.Symbol.{Symbol}
 use Rattle.dz_rank.specs.declared.symbols.Symbol.TheVariants.{Independent, Derivative}
 use Rattle.dz_rank.specs.Symbols.{raised}
-use Rattle.dz_terms.specs.Ranked.{symbol_rate}
+use Rattle.dz_monomials.specs.Ranked.{symbol_rate}
 use Rattle.dz_domain.specs.Point.{Coordinates, IsPoint, iterated_derivative, operator_derivative, symbol_value}
 
 -- the first exponents of none

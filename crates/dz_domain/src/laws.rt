@@ -9,7 +9,7 @@ ghost use Rattle.dz_rank.specs.declared.symbols.Symbol.{Symbol};
 ghost use Rattle.dz_rank.specs.declared.symbols.Symbol.TheVariants.{Independent};
 ghost use Rattle.dz_rank.specs.Rankings.{ranking_cmp};
 ghost use Rattle.dz_poly.specs.Books.{Lives, polynomial};
-ghost use Rattle.dz_terms.specs.Ranked.{symbol_rate, symbols_under};
+ghost use Rattle.dz_monomials.specs.Ranked.{symbol_rate, symbols_under};
 ghost use Rattle.dz_domain.specs.Point.{FitsSignature, value_at};
 
 use crate::domain::Domain;

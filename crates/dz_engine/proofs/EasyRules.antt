@@ -2,32 +2,31 @@
 use Rattle.std.specs.Prelude.{⊤}
 use Rattle.std.proofs.Common.{◌≡◌, ℕ, zero, suc, ◌+◌, ◌==◌, nat_le, Bool, true, false, not, ◌&&◌, ◌||◌, cond, List, [], ◌∷◌, ◌++◌, length, refl, sym, ap, ◌∙◌, subst, Result, Ok, Err, Option, Some, None, is_ok, ◌⊎◌, inl, inr, arith}
 use Rattle.std.proofs.lemmas.Bool.{eq-eqb}
-use Rattle.std.specs.declared.cmp.Ordering.TheVariants.{Less, Equal, Greater}
-use Rattle.std.specs.Ordering.{match_ordering}
 use Rattle.dz_algebra.specs.declared.Limit.{Limit}
 use Rattle.dz_algebra.specs.declared.Limit.TheVariants as limits
 use Rattle.dz_algebra.specs.Monomial.{Monomial, MonomialIn}
 use Rattle.dz_algebra.specs.Polynomial.{Polynomial, PolynomialIn, symbol_polynomial}
 use Rattle.dz_algebra.specs.Norm.{norm}
 use Rattle.dz_algebra.specs.Parts.{is_ground, leader}
-use Rattle.dz_algebra.specs.Size.{Refusal, wide, large, separant_answer, with_symbol}
+use Rattle.dz_algebra.specs.Size.{Refusal, wide, large, separant_answer}
 use Rattle.dz_algebra.specs.Symbols.{Symbols}
 use Rattle.dz_rank.specs.declared.symbols.Symbol.{Symbol}
-use Rattle.dz_diff.specs.Outcome.{◌>>=◌, needs, given, numbered, told_as}
-use Rattle.dz_diff.specs.Lists.{AllOf}
+use Rattle.dz_algebra.specs.Outcome.{◌>>=◌, needs, given, numbered, told_as}
+use Rattle.dz_monomials.specs.Lists.{AllOf}
 use Rattle.dz_diff.specs.Tests.{is_member, same}
 use Rattle.dz_diff.specs.Operations.{Setting}
 use Rattle.dz_diff.specs.State.{State, at_place, put_equation, limit_passed}
 use Rattle.dz_move.specs.Root.{is_closed}
-use Rattle.dz_diff.proofs.Answers.{both}
+use Rattle.dz_algebra.proofs.Outcomes.{both}
 use Rattle.dz_step.specs.declared.Which.{Which}
 use Rattle.dz_step.specs.declared.Which.TheVariants.{Initial, Separant}
 use Rattle.dz_step.specs.Step.{multiplier_answer}
-use Rattle.dz_step.specs.FullRun.{with_derivatives, derivatives_of, or_else}
+use Rattle.dz_step.specs.FullRun.{derivatives_of, or_else}
+use Rattle.dz_step.proofs.NextSteps.{in_derivatives}
 use Rattle.dz_move.specs.declared.Rule.{Rule}
 use Rattle.dz_move.specs.declared.Rule.TheVariants as rules
 use Rattle.dz_move.specs.Fault.{Fault, refusal, rule}
-use Rattle.dz_step.specs.Division.{is_divided, quotient_by}
+use Rattle.dz_monomials.specs.PowerDivision.{is_divided, quotient_by}
 use Rattle.dz_move.specs.Moves.{Action, divide, split, factor, steps_of, Done, within, settled, with_equations, forked, divided_at, split_at, factored, perform}
 use Rattle.dz_tree.specs.Chain.{passes}
 use Rattle.dz_move.specs.Lines.{act, closed, spent, open_separant, Entry}
@@ -174,31 +173,7 @@ symbol_passes test P (u ∷ vs) v e h = by_test (test u) refl e (λ e. symbol_pa
     by_test true f e ih = let k : u ≡ v = cc in (subst (λ x. test x ≡ true) k f, subst P k h.0)
     by_test false f e ih = ih e
 
--- ---- the derivatives of a polynomial are derivatives, and pass what all its symbols pass
-module _ (g : Symbols Symbol) (P : Symbol → Type 0) where
-  -- a list with one more symbol
-  inserted : (s : Symbol) (ss : List Symbol) → P s → AllOf P ss → AllOf P (with_symbol g.cmp s ss)
-  inserted s [] h k = (h, tt)
-  inserted s (t ∷ ts) h k = elim (g.cmp s t) as (λ o. AllOf P (match_ordering o (t ∷ with_symbol g.cmp s ts) (t ∷ ts) (s ∷ t ∷ ts))) [
-    | Less ↦ (k.0, inserted s ts h k.1)
-    | Equal ↦ k
-    | Greater ↦ (h, k)
-  ]
-
-  -- a list with the derivatives of a monomial
-  in_monomial : (Q : Symbol → Type 0) → ((s : Symbol) → Q s → g.is_derivative s ≡ true → P s) → (m : Monomial Symbol) (ss : List Symbol) → MonomialIn Q m → AllOf P ss → AllOf P (with_derivatives g m ss)
-  in_monomial Q give [] ss h k = k
-  in_monomial Q give (p ∷ m) ss h k = by_test (g.is_derivative p.0) refl (in_monomial Q give m ss h.1 k)
-    where
-      by_test : (b : Bool) → g.is_derivative p.0 ≡ b → AllOf P (with_derivatives g m ss) → AllOf P (cond b (with_symbol g.cmp p.0 (with_derivatives g m ss)) (with_derivatives g m ss))
-      by_test true e r = inserted p.0 (with_derivatives g m ss) (give p.0 h.0 e) r
-      by_test false e r = r
-
-  -- what all symbols have gives what all derivatives have
-  pub in_derivatives : (Q : Symbol → Type 0) → ((s : Symbol) → Q s → g.is_derivative s ≡ true → P s) → (p : Polynomial Symbol) → PolynomialIn Q p → AllOf P (derivatives_of g p)
-  in_derivatives Q give [] h = tt
-  in_derivatives Q give (t ∷ p) h = in_monomial Q give t.0 (derivatives_of g p) h.0 (in_derivatives Q give p h.1)
-
+-- ---- the derivatives of a polynomial are derivatives
 -- nothing is asked of symbols
 any_monomial : (m : Monomial Symbol) → MonomialIn (λ _. ⊤) m
 any_monomial [] = tt

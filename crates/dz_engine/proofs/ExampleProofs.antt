@@ -4,7 +4,7 @@ use Rattle.dz_algebra.specs.Norm.{norm, gcd}
 use Rattle.dz_algebra.specs.Polynomial.{polynomial_one}
 use Rattle.dz_algebra.specs.Size.{support, fits, refusal, operation}
 use Rattle.dz_rank.specs.Rankings.{ranking_cmp}
-use Rattle.dz_terms.specs.Ranked.{symbol_rate}
+use Rattle.dz_monomials.specs.Ranked.{symbol_rate}
 use Rattle.dz_move.specs.Root.{root_of}
 use Rattle.dz_step.specs.FullRun.{full_run}
 use Rattle.dz_move.specs.Moves.{reduced, weeded, grown, divided_at, split_at, factored}

@@ -14,20 +14,20 @@ use Rattle.dz_rank.specs.Rankings.{RankingValue, ranking_cmp}
 use Rattle.dz_rank.specs.Symbols.{BelongsTo}
 use Rattle.dz_rank.specs.declared.rankings.Signature.{Signature}
 use Rattle.dz_rank.specs.declared.symbols.Symbol.{Symbol}
-use Rattle.dz_terms.specs.Entries.{IsKeepable}
-use Rattle.dz_terms.proofs.SymbolLaws.{ranking_order}
-use Rattle.dz_diff.specs.Lists.{AllOf}
+use Rattle.dz_monomials.specs.Keeping.{IsKeepable}
+use Rattle.dz_monomials.proofs.SymbolLaws.{ranking_order}
+use Rattle.dz_monomials.specs.Lists.{AllOf}
 use Rattle.dz_diff.specs.Operations.{Setting, setting_of}
-use Rattle.dz_diff.specs.Outcome.{◌>>=◌, needs, given, numbered}
+use Rattle.dz_algebra.specs.Outcome.{◌>>=◌, needs, given, numbered}
 use Rattle.dz_diff.specs.State.{State, at_place, put_equation, limit_passed}
 use Rattle.dz_diff.specs.Tests.{is_member, is_zero, same}
-use Rattle.dz_diff.proofs.Answers.{both}
+use Rattle.dz_algebra.proofs.Outcomes.{both}
 use Rattle.dz_diff.proofs.Places.{all-append, taken}
 use Rattle.dz_step.specs.declared.Role.TheVariants.{Free, Equation, Inequation}
 use Rattle.dz_step.specs.declared.Step.{Step}
 use Rattle.dz_step.specs.declared.Which.{Which}
 use Rattle.dz_step.specs.declared.Which.TheVariants.{Initial, Separant}
-use Rattle.dz_step.specs.Division.{is_divided, quotient_by}
+use Rattle.dz_monomials.specs.PowerDivision.{is_divided, quotient_by}
 use Rattle.dz_step.specs.StepOperators.{course_steps}
 use Rattle.dz_step.specs.FullRun.{Course, finished, stopped, passed, admits, derivatives_of, full_run, or_else}
 use Rattle.dz_step.specs.Step.{multiplier_answer}

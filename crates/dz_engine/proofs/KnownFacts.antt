@@ -10,7 +10,8 @@ use Rattle.dz_rank.specs.Rankings.{RankingValue, ranking_cmp}
 use Rattle.dz_rank.specs.declared.symbols.Symbol.{Symbol}
 use Rattle.dz_rank.specs.declared.symbols.Symbol.TheVariants.{Independent, Derivative}
 use Rattle.dz_terms.specs.Entries.{IsEntry}
-use Rattle.dz_terms.specs.Ranked.{symbols_under}
+use Rattle.dz_monomials.specs.Keeping.{IsTabled}
+use Rattle.dz_monomials.specs.Ranked.{symbols_under}
 use Rattle.dz_poly.specs.Books.{BookValue, IsKept, Lives, polynomial}
 use Rattle.dz_poly.proofs.Books.{kept_polynomial}
 use Rattle.dz_diff.specs.Operations.{setting_of}
@@ -19,7 +20,7 @@ use Rattle.dz_diff.specs.States.{polynomials}
 use Rattle.dz_diff.specs.Tests.{Polynomials, is_member, same}
 use Rattle.dz_step.specs.declared.Which.{Which}
 use Rattle.dz_step.specs.declared.Which.TheVariants.{Initial, Separant}
-use Rattle.dz_step.specs.Division.{is_divided}
+use Rattle.dz_monomials.specs.PowerDivision.{is_divided}
 use Rattle.dz_step.specs.FullRun.{derivatives_of, or_else}
 use Rattle.dz_step.specs.Step.{multiplier_answer, permitted_if}
 use Rattle.dz_step.proofs.DivisorTables.{polynomial_here}
@@ -38,10 +39,10 @@ use Rattle.dz_engine.proofs.Findings.{led_not_ground, symbols_stand, unled_groun
 delta_stays : (old new : BookValue) → IsKept old new → (p : ℕ) → Lives old p → (d : Delta) → IsDelta old p d → IsDelta new p d
 delta_stays old new k p l d h = record {
   lives = omega (arith, k.later, h.lives);
-  is = subst (λ r. delta_answer (setting_of r) (polynomial new p) (polynomial new d.other) ≡ Ok d.entry.terms.items) (sym k.ranking)
-      (subst (λ q. delta_answer (setting_of old.ranking) q (polynomial new d.other) ≡ Ok d.entry.terms.items) (sym (kept_polynomial old new p k l))
-      (subst (λ q. delta_answer (setting_of old.ranking) (polynomial old p) q ≡ Ok d.entry.terms.items) (sym (kept_polynomial old new d.other k h.lives)) h.is));
-  entry = subst (λ r. IsEntry r d.entry.terms.items d.entry.degrees.items) (sym k.ranking) h.entry;
+  is = subst (λ r. delta_answer (setting_of r) (polynomial new p) (polynomial new d.other) ≡ Ok d.entry.terms) (sym k.ranking)
+      (subst (λ q. delta_answer (setting_of old.ranking) q (polynomial new d.other) ≡ Ok d.entry.terms) (sym (kept_polynomial old new p k l))
+      (subst (λ q. delta_answer (setting_of old.ranking) (polynomial old p) q ≡ Ok d.entry.terms) (sym (kept_polynomial old new d.other k h.lives)) h.is));
+  entry = subst (λ r. IsEntry r d.entry) (sym k.ranking) h.entry;
 }
 
 -- what is known stays so where the book keeps its polynomials
@@ -115,7 +116,7 @@ module _ (r : RankingValue) (q : Polynomial Symbol) (u : is_undivided (symbols_u
       by_parts false b e = refl
 
   -- and nothing can be factored out
-  pub no_factor : (s : State) (table : Monomial Symbol) → IsEntry r q table → None ≡ factor_of (symbols_under r) s q
+  pub no_factor : (s : State) (table : Monomial Symbol) → IsTabled r q table → None ≡ factor_of (symbols_under r) s q
   no_factor s table h =
       sym (none_of (λ v. is_divided (ranking_cmp r) v q) (λ v. is_divided (ranking_cmp r) v q && not (same (symbols_under r) q (symbol_polynomial v)) && not (is_member (symbols_under r) (symbol_polynomial v) s.inequations))
       (λ v e. ap (λ b. b && not (same (symbols_under r) q (symbol_polynomial v)) && not (is_member (symbols_under r) (symbol_polynomial v) s.inequations)) e)
@@ -132,7 +133,7 @@ module _ (r : RankingValue) where
   none_granted hs (Err refusal) h = refl
 
   -- one that fits is permitted where it is a unit or its norm is among the inequations
-  pub some_granted : (hs : Polynomials) (answer : Result (Polynomial Symbol) Refusal) (x : Multiplier) (b : Bool) → IsAnswer r answer (Some x) → b ≡ (x.is_unit || is_member (symbols_under r) x.norm.terms.items hs) → b ≡ permitted_if (symbols_under r) hs answer
+  pub some_granted : (hs : Polynomials) (answer : Result (Polynomial Symbol) Refusal) (x : Multiplier) (b : Bool) → IsAnswer r answer (Some x) → b ≡ (x.is_unit || is_member (symbols_under r) x.norm.terms hs) → b ≡ permitted_if (symbols_under r) hs answer
   some_granted hs (Ok m) x b h e = e ∙ ap₂ (λ u q. u || is_member (symbols_under r) q hs) h.unit_is h.norm_is
   some_granted hs (Err refusal) x b h e = absurd h
 
@@ -143,7 +144,7 @@ module _ (r : RankingValue) where
 
   -- and on one that fits unless it is ground or its norm is a member
   pub some_split : (s : State) (which : Which) (answer : Result (Polynomial Symbol) Refusal) (x : Multiplier) (b : Bool) → IsAnswer r answer (Some x)
-      → b ≡ (x.is_ground || is_member (symbols_under r) x.norm.terms.items s.equations || is_member (symbols_under r) x.norm.terms.items s.inequations) → cond b None (Some (Some which)) ≡ to_split_on (symbols_under r) s which answer
+      → b ≡ (x.is_ground || is_member (symbols_under r) x.norm.terms s.equations || is_member (symbols_under r) x.norm.terms s.inequations) → cond b None (Some (Some which)) ≡ to_split_on (symbols_under r) s which answer
   some_split s which (Ok m) x b h e = ap (λ b. cond b None (Some (Some which))) (e ∙ ap₂ (λ u q. u || is_member (symbols_under r) q s.equations || is_member (symbols_under r) q s.inequations) h.ground_is h.norm_is)
   some_split s which (Err refusal) x b h e = absurd h
 

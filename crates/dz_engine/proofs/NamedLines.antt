@@ -7,9 +7,9 @@ use Rattle.dz_algebra.specs.Polynomial.{Polynomial}
 use Rattle.dz_algebra.specs.Size.{wide}
 use Rattle.dz_rank.specs.declared.symbols.Symbol.{Symbol}
 use Rattle.dz_poly.specs.Books.{BookValue, IsBook, Lives, polynomial}
-use Rattle.dz_terms.specs.Entries.{IsKeepable}
-use Rattle.dz_terms.specs.Ranked.{symbols_under}
-use Rattle.dz_diff.specs.Lists.{AllOf}
+use Rattle.dz_monomials.specs.Keeping.{IsKeepable}
+use Rattle.dz_monomials.specs.Ranked.{symbols_under}
+use Rattle.dz_monomials.specs.Lists.{AllOf}
 use Rattle.dz_diff.specs.Operations.{Setting, setting_of}
 use Rattle.dz_diff.specs.State.{State, at_place}
 use Rattle.dz_diff.specs.States.{IsStateOf, LiveAll, StandsIn, StateValue, polynomials, state_in}
@@ -23,7 +23,7 @@ use Rattle.dz_step.specs.declared.Role.TheVariants.{Equation, Inequation}
 use Rattle.dz_step.specs.declared.replaying.RunEnd.{RunEnd}
 use Rattle.dz_step.specs.Run.{run}
 use Rattle.dz_step.proofs.FullRuns.{full_run_is_run}
-use Rattle.dz_diff.specs.Outcome.{◌>>=◌, given, told_as}
+use Rattle.dz_algebra.specs.Outcome.{◌>>=◌, given, told_as}
 use Rattle.dz_move.specs.declared.Rule.TheVariants as rules
 use Rattle.dz_move.specs.Fault.{rule, run_fault}
 use Rattle.dz_move.specs.KnownEnds.{IsKnownEnd}
@@ -142,16 +142,16 @@ holds_in book h few s stands facts budget w low = let o = state_over book h s st
 
 -- ---- a full run that ends
 -- its end is known
-pub known_end : (g : Setting) (s : State) (members : Members) (i left : ℕ) (p : Polynomial Symbol) (steps : List Step) (x : RunEnd) → at_place i (members_of members s) ≡ Some p → full_run g s (role_in members i) left p ≡ finished steps (x.end).terms.items x.count → x.count < 2 ^ 32
+pub known_end : (g : Setting) (s : State) (members : Members) (i left : ℕ) (p : Polynomial Symbol) (steps : List Step) (x : RunEnd) → at_place i (members_of members s) ≡ Some p → full_run g s (role_in members i) left p ≡ finished steps (x.end).terms x.count → x.count < 2 ^ 32
     → (terms : ℕ) → IsKnownEnd g s (run_action members i steps) (record { terms = terms; run = x })
 known_end g s Equations i left p steps x there e few terms = record {
   count = x.count;
-  is = ap (λ o. given o (0, rule rules.Place) >>= (λ f. told_as run_fault (run g s (Equation i) f steps))) there ∙ ap (told_as run_fault) (full_run_is_run g s (Equation i) left p steps (x.end).terms.items x.count e).0;
+  is = ap (λ o. given o (0, rule rules.Place) >>= (λ f. told_as run_fault (run g s (Equation i) f steps))) there ∙ ap (told_as run_fault) (full_run_is_run g s (Equation i) left p steps (x.end).terms x.count e).0;
   counted = omega (arith, few);
 }
 known_end g s Inequations i left p steps x there e few terms = record {
   count = x.count;
-  is = ap (λ o. given o (0, rule rules.Place) >>= (λ f. told_as run_fault (run g s (Inequation i) f steps))) there ∙ ap (told_as run_fault) (full_run_is_run g s (Inequation i) left p steps (x.end).terms.items x.count e).0;
+  is = ap (λ o. given o (0, rule rules.Place) >>= (λ f. told_as run_fault (run g s (Inequation i) f steps))) there ∙ ap (told_as run_fault) (full_run_is_run g s (Inequation i) left p steps (x.end).terms x.count e).0;
   counted = omega (arith, few);
 }
 

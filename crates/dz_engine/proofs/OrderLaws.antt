@@ -3,14 +3,14 @@ use Rattle.std.specs.Prelude.{⊤}
 use Rattle.std.specs.List.{AllByRecursion}
 use Rattle.std.proofs.Common.{◌≡◌, ℕ, zero, suc, ◌+◌, ◌*◌, ◌≤◌, nat_le, true, cond, List, [], ◌∷◌, ◌++◌, refl, sym, ap, ◌∙◌, arith, subst, Result, Ok, Err, Some, None}
 use Rattle.dz_rank.specs.Rankings.{RankingValue}
-use Rattle.dz_diff.specs.Outcome.{◌>>=◌, needs, numbered}
+use Rattle.dz_algebra.specs.Outcome.{◌>>=◌, needs, numbered}
 use Rattle.dz_diff.specs.Operations.{Setting, setting_of}
 use Rattle.dz_diff.specs.Over.{AreOver, IsOver}
 use Rattle.dz_diff.specs.State.{State}
 use Rattle.dz_diff.proofs.Places.{taken}
 use Rattle.dz_move.specs.Root.{System, is_closed, root_of}
-use Rattle.dz_terms.specs.Entries.{IsKeepable}
-use Rattle.dz_terms.specs.Ranked.{symbols_under}
+use Rattle.dz_monomials.specs.Keeping.{IsKeepable}
+use Rattle.dz_monomials.specs.Ranked.{symbols_under}
 use Rattle.dz_move.specs.Systems.{system_limit}
 use Rattle.dz_pair.specs.Pair.{critical_pairs}
 use Rattle.dz_move.specs.declared.Rule.{Rule}

@@ -5,17 +5,17 @@ use Rattle.std.proofs.lemmas.Bool.{leb-true}
 use Rattle.dz_algebra.specs.Polynomial.{Polynomial}
 use Rattle.dz_rank.specs.Rankings.{RankingValue}
 use Rattle.dz_rank.specs.declared.symbols.Symbol.{Symbol}
-use Rattle.dz_diff.specs.Outcome.{◌>>=◌, needs, numbered, told_as}
-use Rattle.dz_diff.specs.Lists.{AllOf}
-use Rattle.dz_terms.proofs.SymbolLaws.{ranking_order}
+use Rattle.dz_algebra.specs.Outcome.{◌>>=◌, needs, numbered, told_as}
+use Rattle.dz_monomials.specs.Lists.{AllOf}
+use Rattle.dz_monomials.proofs.SymbolLaws.{ranking_order}
 use Rattle.dz_diff.specs.Operations.{Setting, setting_of}
 use Rattle.dz_diff.specs.Over.{IsOver}
 use Rattle.dz_diff.specs.State.{State, at_place}
 use Rattle.dz_move.specs.Root.{is_closed}
-use Rattle.dz_diff.proofs.Answers.{bind_ok, told_ok, then_ok, ok_same}
+use Rattle.dz_algebra.proofs.Outcomes.{bind_ok, told_ok, then_ok, ok_same}
 use Rattle.dz_diff.specs.Tests.{Polynomials}
-use Rattle.dz_terms.specs.Entries.{IsKeepable}
-use Rattle.dz_terms.specs.Ranked.{symbols_under}
+use Rattle.dz_monomials.specs.Keeping.{IsKeepable}
+use Rattle.dz_monomials.specs.Ranked.{symbols_under}
 use Rattle.dz_diff.specs.States.{IsStateOf}
 use Rattle.dz_step.specs.declared.Role.TheVariants.{Free, Equation, Inequation}
 use Rattle.dz_algebra.specs.Norm.{norm}

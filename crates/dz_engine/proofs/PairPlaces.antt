@@ -4,7 +4,7 @@ use Rattle.std.specs.Prelude.{slice_index_or}
 use Rattle.dz_algebra.specs.Polynomial.{Polynomial}
 use Rattle.dz_poly.specs.Books.{BookValue, polynomial}
 use Rattle.dz_rank.specs.declared.symbols.Symbol.{Symbol}
-use Rattle.dz_terms.specs.Ranked.{symbols_under}
+use Rattle.dz_monomials.specs.Ranked.{symbols_under}
 use Rattle.dz_diff.specs.Operations.{setting_of}
 use Rattle.dz_diff.specs.State.{at_place}
 use Rattle.dz_diff.specs.States.{StateValue, polynomials, state_in}

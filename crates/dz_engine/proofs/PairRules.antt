@@ -9,8 +9,8 @@ use Rattle.dz_algebra.specs.Norm.{norm}
 use Rattle.dz_algebra.specs.Size.{Refusal, large}
 use Rattle.dz_algebra.specs.Symbols.{Symbols}
 use Rattle.dz_rank.specs.declared.symbols.Symbol.{Symbol}
-use Rattle.dz_diff.specs.Outcome.{◌>>=◌, needs, given, numbered, told_as}
-use Rattle.dz_diff.specs.Lists.{AllOf}
+use Rattle.dz_algebra.specs.Outcome.{◌>>=◌, needs, given, numbered, told_as}
+use Rattle.dz_monomials.specs.Lists.{AllOf}
 use Rattle.dz_diff.specs.Tests.{is_zero, is_member}
 use Rattle.dz_diff.specs.Operations.{Setting}
 use Rattle.dz_diff.specs.State.{State, at_place, limit_passed}

@@ -7,14 +7,14 @@ use Rattle.dz_algebra.specs.Polynomial.{Polynomial}
 use Rattle.dz_algebra.specs.Size.{Refusal, large, wide}
 use Rattle.dz_algebra.specs.Symbols.{Symbols}
 use Rattle.dz_rank.specs.declared.symbols.Symbol.{Symbol}
-use Rattle.dz_terms.specs.Stops.{IsStop}
-use Rattle.dz_terms.specs.declared.PolyStop.TheVariants as stops
-use Rattle.dz_diff.specs.Lists.{AllOf}
+use Rattle.dz_monomials.specs.Stops.{IsStop}
+use Rattle.dz_monomials.specs.declared.PolyStop.TheVariants as stops
+use Rattle.dz_monomials.specs.Lists.{AllOf}
 use Rattle.dz_diff.specs.Operations.{Setting}
-use Rattle.dz_diff.specs.Outcome.{◌>>=◌, numbered, told_as}
+use Rattle.dz_algebra.specs.Outcome.{◌>>=◌, numbered, told_as}
 use Rattle.dz_diff.specs.State.{State, at_place}
 use Rattle.dz_diff.specs.Tests.{is_zero}
-use Rattle.dz_diff.proofs.Answers.{bind_ok, ok_same, then_ok, told_ok}
+use Rattle.dz_algebra.proofs.Outcomes.{bind_ok, ok_same, then_ok, told_ok}
 use Rattle.dz_step.specs.declared.Role.TheVariants.{Free}
 use Rattle.dz_step.specs.declared.Step.{Step}
 use Rattle.dz_step.specs.FullRun.{Course, finished, full_run, passed}
@@ -104,10 +104,10 @@ module _ (g : Setting) (budget w : ℕ) (s : State) (i j : ℕ) (d : Polynomial 
         }
 
     -- it ends elsewhere, and its end is known
-    pub grown_course : IsPairAt g.symbols s i j → (steps : List Step) (x : ActionEnd) → x.terms ≡ length d → (x.run).count < 2 ^ 32 → full_run g s Free (left - 1 - length d) d ≡ finished steps ((x.run).end).terms.items (x.run).count → is_zero ((x.run).end).terms.items ≡ false
+    pub grown_course : IsPairAt g.symbols s i j → (steps : List Step) (x : ActionEnd) → x.terms ≡ length d → (x.run).count < 2 ^ 32 → full_run g s Free (left - 1 - length d) d ≡ finished steps ((x.run).end).terms (x.run).count → is_zero ((x.run).end).terms ≡ false
         → IsPairCourse g budget w s (i, j) (pairings.Grown steps x)
     grown_course n steps x k few e z =
-        let end = ((x.run).end).terms.items in
+        let end = ((x.run).end).terms in
         let count = (x.run).count in
         let f : going ≡ finished steps end count = ap (λ n. full_run g s Free n d) (sym rest_is) ∙ e in
         let ran = full_run_is_run g s Free (budget - (w + 1 + length d)) d steps end count f in

@@ -18,16 +18,16 @@ use Rattle.dz_rank.specs.Symbols.{is_derivative}
 use Rattle.dz_rank.specs.declared.symbols.Operator.{Operator}
 use Rattle.dz_rank.specs.declared.symbols.Symbol.{Symbol}
 use Rattle.dz_rank.specs.declared.symbols.Symbol.TheVariants.{Independent, Derivative}
-use Rattle.dz_terms.specs.Ranked.{symbols_under}
-use Rattle.dz_terms.proofs.SymbolLaws.{ranking_order}
-use Rattle.dz_diff.specs.Lists.{AllOf}
+use Rattle.dz_monomials.specs.Ranked.{symbols_under}
+use Rattle.dz_monomials.proofs.SymbolLaws.{ranking_order}
+use Rattle.dz_monomials.specs.Lists.{AllOf}
 use Rattle.dz_diff.specs.Operators.{is_proper, quotient}
 use Rattle.dz_diff.specs.Operations.{setting_of}
-use Rattle.dz_diff.specs.Outcome.{needs}
+use Rattle.dz_algebra.specs.Outcome.{needs}
 use Rattle.dz_diff.specs.Over.{IsOver}
 use Rattle.dz_diff.specs.Tests.{Polynomials, has_unit, has_zero, is_member, is_unit, is_zero, same, same_symbol}
 use Rattle.dz_diff.specs.State.{State, at_place, without_place}
-use Rattle.dz_diff.proofs.Answers.{both, either}
+use Rattle.dz_algebra.proofs.Outcomes.{both, either}
 use Rattle.dz_diff.proofs.LeaderBounds.{leader_is_one, leader_regular, under_leader}
 use Rattle.dz_diff.proofs.LeaderDerivations.{IsRegular}
 use Rattle.dz_diff.proofs.OperatorLeaders.{derivative_grows}
@@ -40,7 +40,7 @@ use Rattle.dz_step.specs.declared.Role.TheVariants.{Equation, Inequation}
 use Rattle.dz_step.specs.declared.Which.TheVariants.{Initial, Separant}
 use Rattle.dz_step.specs.FullRun.{admits, derivatives_of, next_step}
 use Rattle.dz_step.specs.Step.{multiplier_answer, multiplier_of, permitted_if, step_degree}
-use Rattle.dz_step.proofs.NextSteps.{derivative_quotient}
+use Rattle.dz_step.proofs.NextSteps.{derivative_quotient, in_derivatives}
 use Rattle.dz_step.proofs.NoSteps.{no_step_at}
 use Rattle.dz_step.proofs.StepsLower.{zero_above}
 use Rattle.dz_pair.specs.Pair.{critical_pairs}
@@ -48,7 +48,7 @@ use Rattle.dz_move.specs.declared.Rule.TheVariants as rules
 use Rattle.dz_move.specs.Lines.{Evidence}
 use Rattle.dz_tree.specs.Chain.{passes, has_leaders, is_reducible, reducible_by, autoreduced_from, is_autoreduced, separant_fits, has_permitted, is_free_of, is_reduced, same_pairs, chain_rule}
 use Rattle.dz_engine.specs.Order.{weed_next}
-use Rattle.dz_engine.proofs.EasyRules.{and_is, in_derivatives, needs_is, none_at}
+use Rattle.dz_engine.proofs.EasyRules.{and_is, needs_is, none_at}
 use Rattle.dz_engine.proofs.RestingMultipliers.{Rests, divides_no_other, leads, multiplier_degree, none_there, norm_degree, over_at, permits, rests_at, separant_there, unnamed}
 use Rattle.dz_engine.proofs.PairRules.{or_right, places_of}
 use Rattle.dz_engine.proofs.RestingPlaces.{passing}

@@ -14,17 +14,17 @@ use Rattle.dz_algebra.specs.Symbols.{Symbols}
 use Rattle.dz_rank.specs.Rankings.{RankingValue, ranking_cmp}
 use Rattle.dz_rank.specs.Symbols.{is_derivative}
 use Rattle.dz_rank.specs.declared.symbols.Symbol.{Symbol}
-use Rattle.dz_terms.specs.Ranked.{symbols_under}
-use Rattle.dz_terms.proofs.SymbolLaws.{ranking_order}
-use Rattle.dz_diff.specs.Lists.{AllOf}
+use Rattle.dz_monomials.specs.Ranked.{symbols_under}
+use Rattle.dz_monomials.proofs.SymbolLaws.{ranking_order}
+use Rattle.dz_monomials.specs.Lists.{AllOf}
 use Rattle.dz_diff.specs.Operators.{quotient}
 use Rattle.dz_diff.specs.Operations.{Setting, setting_of}
-use Rattle.dz_diff.specs.Outcome.{needs}
+use Rattle.dz_algebra.specs.Outcome.{needs}
 use Rattle.dz_diff.specs.Over.{AreOver}
 use Rattle.dz_diff.specs.State.{State, at_place}
 use Rattle.dz_diff.specs.States.{IsStateOf}
 use Rattle.dz_diff.specs.Tests.{Polynomials, is_member, is_unit, is_zero, same}
-use Rattle.dz_diff.proofs.Answers.{both, is_false, then_ok}
+use Rattle.dz_algebra.proofs.Outcomes.{both, is_false, then_ok}
 use Rattle.dz_diff.proofs.Places.{taken}
 use Rattle.dz_move.proofs.RootStates.{or_none}
 use Rattle.dz_diff.proofs.SameTests.{same_itself}
@@ -32,7 +32,7 @@ use Rattle.dz_step.specs.declared.Role.TheVariants.{Equation, Inequation}
 use Rattle.dz_step.specs.declared.Step.{Step}
 use Rattle.dz_step.specs.declared.Which.{Which}
 use Rattle.dz_step.specs.declared.Which.TheVariants.{Initial, Separant}
-use Rattle.dz_step.specs.Division.{is_divided}
+use Rattle.dz_monomials.specs.PowerDivision.{is_divided}
 use Rattle.dz_step.specs.FullRun.{admits, derivatives_of, next_step, or_else}
 use Rattle.dz_step.specs.Step.{multiplier_answer, permitted_if, step_degree, usable}
 use Rattle.dz_step.proofs.NextSteps.{found_first}

@@ -5,16 +5,16 @@ use Rattle.std.proofs.lemmas.List.{append_assoc, map-append}
 use Rattle.dz_algebra.specs.Polynomial.{Polynomial}
 use Rattle.dz_rank.specs.Rankings.{RankingValue}
 use Rattle.dz_rank.specs.declared.symbols.Symbol.{Symbol}
-use Rattle.dz_terms.specs.Ranked.{symbols_under}
+use Rattle.dz_monomials.specs.Ranked.{symbols_under}
 use Rattle.dz_poly.specs.Books.{BookValue, IsKept}
 use Rattle.dz_poly.proofs.Books.{kept_trans}
-use Rattle.dz_diff.specs.Lists.{AllOf}
+use Rattle.dz_monomials.specs.Lists.{AllOf}
 use Rattle.dz_diff.specs.Operations.{Setting, setting_of}
-use Rattle.dz_diff.specs.Outcome.{numbered, told_as}
+use Rattle.dz_algebra.specs.Outcome.{numbered, told_as}
 use Rattle.dz_diff.specs.State.{State, at_place}
 use Rattle.dz_diff.specs.States.{IsStateOf, StandsIn, state_in}
 use Rattle.dz_diff.specs.Tests.{is_zero}
-use Rattle.dz_diff.proofs.Answers.{bind_ok, given_then, ok_same, then_ok, told_ok}
+use Rattle.dz_algebra.proofs.Outcomes.{bind_ok, given_then, ok_same, then_ok, told_ok}
 use Rattle.dz_step.specs.declared.Role.TheVariants.{Free}
 use Rattle.dz_step.specs.Run.{run}
 use Rattle.dz_pair.specs.Pair.{common, delta_answer}

@@ -2,8 +2,8 @@
 use Rattle.std.specs.Prelude.{⊤, MatchResult}
 use Rattle.std.proofs.Common.{◌≡◌, ℕ, zero, suc, ◌+◌, ◌-◌, ◌*◌, ◌≤◌, nat_le, nat_lt, Bool, true, false, cond, List, [], ◌∷◌, ◌++◌, length, refl, sym, ap, ap₂, ◌∙◌, arith, subst, Result, Ok, Err, is_ok, IsOk, length-append}
 use Rattle.std.proofs.lemmas.Bool.{leb-false, lt-ltb}
-use Rattle.dz_diff.specs.Outcome.{◌>>=◌, needs, told_as}
-use Rattle.dz_diff.specs.Lists.{AllOf}
+use Rattle.dz_algebra.specs.Outcome.{◌>>=◌, needs, told_as}
+use Rattle.dz_monomials.specs.Lists.{AllOf}
 use Rattle.dz_diff.specs.Operations.{Setting}
 use Rattle.dz_diff.specs.State.{State}
 use Rattle.dz_move.specs.Root.{System, root_of}

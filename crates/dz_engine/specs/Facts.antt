@@ -10,12 +10,13 @@ use Rattle.dz_poly.specs.Books.{BookValue, Lives, polynomial}
 use Rattle.dz_rank.specs.Rankings.{RankingValue}
 use Rattle.dz_rank.specs.declared.symbols.Symbol.{Symbol}
 use Rattle.dz_terms.specs.Entries.{IsEntry}
-use Rattle.dz_terms.specs.Ranked.{symbols_under}
+use Rattle.dz_monomials.specs.Keeping.{IsTabled}
+use Rattle.dz_monomials.specs.Ranked.{symbols_under}
 use Rattle.dz_diff.specs.Operations.{setting_of}
 use Rattle.dz_diff.specs.Tests.{is_unit}
 use Rattle.dz_pair.specs.Pair.{delta_answer}
 use Rattle.dz_step.specs.declared.Which.TheVariants.{Initial, Separant}
-use Rattle.dz_step.specs.Division.{is_divided}
+use Rattle.dz_monomials.specs.PowerDivision.{is_divided}
 use Rattle.dz_step.specs.Step.{multiplier_answer}
 use Rattle.dz_engine.specs.declared.facts.Delta.{Delta}
 use Rattle.dz_engine.specs.declared.facts.Facts.{Facts}
@@ -24,8 +25,8 @@ use Rattle.dz_engine.specs.Order.{first_symbol, symbols_of}
 
 -- this is kept of the multiplier m
 pub record IsMultiplier (r : RankingValue) (m : Polynomial Symbol) (x : Multiplier) : Type 0 where
-  pub norm_is : x.norm.terms.items ≡ norm m
-  pub entry : IsEntry r x.norm.terms.items x.norm.degrees.items
+  pub norm_is : x.norm.terms ≡ norm m
+  pub entry : IsEntry r x.norm
   pub ground_is : x.is_ground ≡ is_ground (symbols_under r) m
   pub unit_is : x.is_unit ≡ is_unit (symbols_under r) m
 
@@ -50,11 +51,11 @@ pub record AreFactsOf (r : RankingValue) (q : Polynomial Symbol) (f : Facts) : T
 pub record IsDeltaBy (book : BookValue) (p q : ℕ) (terms : Polynomial Symbol) (table : Monomial Symbol) : Type 0 where
   pub lives : Lives book q
   pub is : delta_answer (setting_of book.ranking) (polynomial book p) (polynomial book q) ≡ Ok terms
-  pub entry : IsEntry book.ranking terms table
+  pub entry : IsTabled book.ranking terms table
 
 -- this is kept as the Delta-polynomial of a polynomial with another one
 abbrev pub IsDelta : BookValue → ℕ → Delta → Type 0
-IsDelta book p d = IsDeltaBy book p d.other d.entry.terms.items d.entry.degrees.items
+IsDelta book p d = IsDeltaBy book p d.other d.entry.terms d.entry.degrees
 
 -- this is kept of a polynomial that stands in the book
 pub record IsKnown (book : BookValue) (f : Facts) : Type 0 where

@@ -7,7 +7,7 @@ use Rattle.dz_algebra.specs.Size.{Refusal, wide, separant_answer}
 use Rattle.dz_rank.specs.declared.symbols.Symbol.{Symbol}
 use Rattle.dz_rank.specs.Rankings.{RankingValue}
 use Rattle.dz_diff.specs.Operations.{Setting, setting_of}
-use Rattle.dz_terms.specs.Ranked.{symbols_under}
+use Rattle.dz_monomials.specs.Ranked.{symbols_under}
 use Rattle.dz_step.specs.FullRun.{full_run}
 use Rattle.dz_step.specs.StepOperators.{course_steps}
 use Rattle.dz_step.specs.declared.Role.TheVariants.{Free}

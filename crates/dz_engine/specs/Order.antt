@@ -18,7 +18,7 @@ use Rattle.dz_step.specs.Step.{multiplier_answer}
 use Rattle.dz_step.specs.FullRun.{derivatives_of, or_else, admits, Course, finished, stopped, passed, full_run}
 use Rattle.dz_pair.specs.Pair.{delta_answer, critical_pairs}
 use Rattle.dz_move.specs.Fault.{Fault, refusal, rule, fault_of}
-use Rattle.dz_step.specs.Division.{is_divided}
+use Rattle.dz_monomials.specs.PowerDivision.{is_divided}
 use Rattle.dz_move.specs.Moves.{Action, reduce, weed, add, divide, split, factor, perform}
 use Rattle.dz_move.specs.Lines.{Evidence, Line, act, closed, chain, spent, spent_pairs, open_wide, open_separant, open_large, Entry}
 

@@ -6,7 +6,7 @@ use Rattle.dz_diff.specs.Operations.{Setting}
 use Rattle.dz_move.specs.Root.{is_closed}
 use Rattle.dz_diff.specs.State.{State, at_place}
 use Rattle.dz_step.specs.declared.Role.TheVariants.{Inequation}
-use Rattle.dz_step.specs.Division.{is_divided}
+use Rattle.dz_monomials.specs.PowerDivision.{is_divided}
 use Rattle.dz_step.specs.FullRun.{admits}
 use Rattle.dz_tree.specs.Chain.{chain_rule}
 use Rattle.dz_move.specs.Lines.{Entry}

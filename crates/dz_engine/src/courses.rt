@@ -66,15 +66,15 @@ fn run_on(
     table: &mut Vec<Option<Divisor>>,
 ) -> Result<FullRun, Attempt>
     requires stands { StandsIn book.now state.now }
-    requires start { IsEntry book.now.ranking start.terms.items start.degrees.items }
+    requires start { IsEntry book.now.ranking start }
     requires table { AreDivisors book.now.ranking (state_in book.now state.now) Free table.old.items }
     requires there { IsSome (at_place place (members_of members (state_in book.now state.now))) }
-    ensures finished { IfOk result (λ x. (f : Polynomial Symbol) → start.terms.items ≡ norm f
+    ensures finished { IfOk result (λ x. (f : Polynomial Symbol) → start.terms ≡ norm f
         → full_run (setting_of book.now.ranking) (state_in book.now state.now)
-        (role_in members place) budget f ≡ finished x.run x.end.terms.items x.count) }
+        (role_in members place) budget f ≡ finished x.run x.end.terms x.count) }
     ensures end { IfOk result (λ x.
-        IsEntry book.now.ranking x.end.terms.items x.end.degrees.items) }
-    ensures stopped { IfErr result (λ a. (f : Polynomial Symbol) → start.terms.items ≡ norm f
+        IsEntry book.now.ranking x.end) }
+    ensures stopped { IfErr result (λ a. (f : Polynomial Symbol) → start.terms ≡ norm f
         → IsAttemptOf (full_run (setting_of book.now.ranking) (state_in book.now state.now)
         (role_in members place) budget f) a.run a.stop) }
 {

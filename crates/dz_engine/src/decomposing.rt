@@ -3,8 +3,8 @@
 ghost use Rattle.std.specs.Prelude.{◌≡◌, ◌≤◌, [], ◌∷◌, IfOk, OnOk};
 ghost use Rattle.std.specs.List.{AllByRecursion};
 ghost use Rattle.dz_poly.specs.Books.{IsKept};
-ghost use Rattle.dz_terms.specs.Ranked.{symbols_under};
-ghost use Rattle.dz_diff.specs.Lists.{AllOf};
+ghost use Rattle.dz_monomials.specs.Ranked.{symbols_under};
+ghost use Rattle.dz_monomials.specs.Lists.{AllOf};
 ghost use Rattle.dz_diff.specs.Operations.{setting_of};
 ghost use Rattle.dz_diff.specs.States.{IsStateOf, StandsIn, state_in};
 ghost use Rattle.dz_tree.specs.Belonging.{IsLineOf};

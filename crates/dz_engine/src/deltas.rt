@@ -3,8 +3,8 @@
 ghost use Rattle.std.specs.Prelude.{◌≡◌, ◌<◌, true, Ok, IfOk, IfErr, IfSome, length, slice_index_or};
 ghost use Rattle.dz_poly.specs.Books.{BookValue, Lives, polynomial};
 ghost use Rattle.dz_terms.specs.Entries.{IsEntry};
-ghost use Rattle.dz_terms.specs.Ranked.{symbols_under};
-ghost use Rattle.dz_terms.specs.Stops.{IsStop};
+ghost use Rattle.dz_monomials.specs.Ranked.{symbols_under};
+ghost use Rattle.dz_monomials.specs.Stops.{IsStop};
 ghost use Rattle.dz_diff.specs.Operations.{setting_of};
 ghost use Rattle.dz_pair.specs.Pair.{delta_answer, is_pair};
 ghost use Rattle.dz_engine.specs.Facts.{AreKnown, IsDeltaBy, IsKnown, names_of};
@@ -17,7 +17,7 @@ use dz_terms::{Entry, copied};
 /// The Delta-polynomial with another equation that was made before.
 fn kept_delta<'a>(facts: &'a Facts, other: Poly) -> Option<&'a Entry>
     ensures { IfSome result (λ e. (book : BookValue) → IsKnown book facts.now
-        → IsDeltaBy book facts.now.poly other e.now.terms.items e.now.degrees.items) }
+        → IsDeltaBy book facts.now.poly other e.now.terms e.now.degrees) }
 {
     'deltas: for k in 0..facts.deltas.len() {
         if facts.deltas[k].other == other {
@@ -36,8 +36,8 @@ pub(crate) fn delta_of(book: &Book, facts: &mut Facts, other: Poly) -> Result<En
     ensures known { IsKnown book.now facts.new }
     ensures name { facts.new.poly ≡ facts.old.poly }
     ensures ok { IfOk result (λ x. delta_answer (setting_of book.now.ranking)
-        (polynomial book.now facts.old.poly) (polynomial book.now other) ≡ Ok x.terms.items) }
-    ensures entry { IfOk result (λ x. IsEntry book.now.ranking x.terms.items x.degrees.items) }
+        (polynomial book.now facts.old.poly) (polynomial book.now other) ≡ Ok x.terms) }
+    ensures entry { IfOk result (λ x. IsEntry book.now.ranking x) }
     ensures refused { IfErr result (λ stop. IsStop stop (delta_answer (setting_of book.now.ranking)
         (polynomial book.now facts.old.poly) (polynomial book.now other))) }
 {
@@ -69,8 +69,8 @@ pub(crate) fn delta_at(
     ensures names { names_of facts.new.items ≡ names_of facts.old.items }
     ensures ok { IfOk result (λ x. delta_answer (setting_of book.now.ranking)
         (polynomial book.now (slice_index_or (names_of facts.old.items) k 0))
-        (polynomial book.now other) ≡ Ok x.terms.items) }
-    ensures entry { IfOk result (λ x. IsEntry book.now.ranking x.terms.items x.degrees.items) }
+        (polynomial book.now other) ≡ Ok x.terms) }
+    ensures entry { IfOk result (λ x. IsEntry book.now.ranking x) }
     ensures refused { IfErr result (λ stop. IsStop stop (delta_answer (setting_of book.now.ranking)
         (polynomial book.now (slice_index_or (names_of facts.old.items) k 0))
         (polynomial book.now other))) }

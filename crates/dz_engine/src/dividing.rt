@@ -4,10 +4,10 @@ ghost use Rattle.std.specs.Prelude.{◌≡◌, ◌&&◌, IfOk};
 ghost use Rattle.dz_algebra.specs.Polynomial.{symbol_polynomial};
 ghost use Rattle.dz_rank.specs.Rankings.{ranking_cmp};
 ghost use Rattle.dz_terms.specs.Entries.{IsEntry};
-ghost use Rattle.dz_terms.specs.Ranked.{symbols_under};
+ghost use Rattle.dz_monomials.specs.Ranked.{symbols_under};
 ghost use Rattle.dz_diff.specs.States.{StandsIn, state_in};
 ghost use Rattle.dz_diff.specs.Tests.{is_member};
-ghost use Rattle.dz_step.specs.Division.{is_divided};
+ghost use Rattle.dz_monomials.specs.PowerDivision.{is_divided};
 ghost use Rattle.dz_engine.specs.Facts.{AreFactsOf, AreKnown, names_of};
 ghost use Rattle.dz_engine.specs.Finding.{divisible, inequation_dividing};
 
@@ -15,8 +15,8 @@ use crate::facts::Facts;
 use dz_diff::is_among;
 use dz_poly::Book;
 use dz_rank::Symbol;
-use dz_step::{State, is_divided};
-use dz_terms::{Entry, power};
+use dz_step::State;
+use dz_terms::{Entry, is_divided, power};
 use std::alloc::AllocError;
 
 /// Whether a symbol is an inequation.
@@ -38,10 +38,10 @@ fn divides_as_inequation(
     v: Symbol,
 ) -> Result<bool, AllocError>
     requires stands { StandsIn book.now state.now }
-    requires entry { IsEntry book.now.ranking entry.now.terms.items entry.now.degrees.items }
+    requires entry { IsEntry book.now.ranking entry.now }
     ensures { IfOk result (λ b. b ≡ (is_member (symbols_under book.now.ranking)
         (symbol_polynomial v) (state_in book.now state.now).inequations
-        && is_divided (ranking_cmp book.now.ranking) v entry.now.terms.items)) }
+        && is_divided (ranking_cmp book.now.ranking) v entry.now.terms)) }
 {
     if !is_divided(book.ranking(), entry, v) {
         return Ok(false);
@@ -57,10 +57,10 @@ fn inequation_dividing(
     facts: &Facts,
 ) -> Result<Option<Symbol>, AllocError>
     requires stands { StandsIn book.now state.now }
-    requires entry { IsEntry book.now.ranking entry.now.terms.items entry.now.degrees.items }
-    requires facts { AreFactsOf book.now.ranking entry.now.terms.items facts.now }
+    requires entry { IsEntry book.now.ranking entry.now }
+    requires facts { AreFactsOf book.now.ranking entry.now.terms facts.now }
     ensures { IfOk result (λ o. o ≡ inequation_dividing (symbols_under book.now.ranking)
-        (state_in book.now state.now) entry.now.terms.items) }
+        (state_in book.now state.now) entry.now.terms) }
 {
     if facts.is_undivided {
         return Ok(None);

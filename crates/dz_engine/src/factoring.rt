@@ -4,10 +4,10 @@ ghost use Rattle.std.specs.Prelude.{◌≡◌, ◌&&◌, not, IfOk};
 ghost use Rattle.dz_algebra.specs.Polynomial.{symbol_polynomial};
 ghost use Rattle.dz_rank.specs.Rankings.{ranking_cmp};
 ghost use Rattle.dz_terms.specs.Entries.{IsEntry};
-ghost use Rattle.dz_terms.specs.Ranked.{symbols_under};
+ghost use Rattle.dz_monomials.specs.Ranked.{symbols_under};
 ghost use Rattle.dz_diff.specs.States.{StandsIn, state_in};
 ghost use Rattle.dz_diff.specs.Tests.{is_member, same};
-ghost use Rattle.dz_step.specs.Division.{is_divided};
+ghost use Rattle.dz_monomials.specs.PowerDivision.{is_divided};
 ghost use Rattle.dz_engine.specs.Facts.{AreFactsOf, AreKnown, names_of};
 ghost use Rattle.dz_engine.specs.Finding.{factor_of, factorable};
 
@@ -15,13 +15,13 @@ use crate::dividing::is_inequation;
 use crate::facts::Facts;
 use dz_poly::Book;
 use dz_rank::Symbol;
-use dz_step::{State, is_divided};
-use dz_terms::{Entry, power, same_entries};
+use dz_step::State;
+use dz_terms::{Entry, is_divided, power, same_entries};
 use std::alloc::AllocError;
 
 /// Whether an entry is a symbol.
 fn is_symbol(book: &Book, entry: &Entry, v: Symbol) -> Result<bool, AllocError>
-    ensures { IfOk result (λ b. b ≡ same (symbols_under book.now.ranking) entry.now.terms.items
+    ensures { IfOk result (λ b. b ≡ same (symbols_under book.now.ranking) entry.now.terms
         (symbol_polynomial v)) }
 {
     let symbol = power(book.allocator(), 1, v, 1)?;
@@ -31,10 +31,10 @@ fn is_symbol(book: &Book, entry: &Entry, v: Symbol) -> Result<bool, AllocError>
 /// Whether a symbol divides an entry, is not the entry and is no inequation.
 fn is_factor(book: &Book, state: &State, entry: &Entry, v: Symbol) -> Result<bool, AllocError>
     requires stands { StandsIn book.now state.now }
-    requires entry { IsEntry book.now.ranking entry.now.terms.items entry.now.degrees.items }
+    requires entry { IsEntry book.now.ranking entry.now }
     ensures { IfOk result (λ b. b ≡ (is_divided (ranking_cmp book.now.ranking) v
-        entry.now.terms.items && not (same (symbols_under book.now.ranking)
-        entry.now.terms.items (symbol_polynomial v))
+        entry.now.terms && not (same (symbols_under book.now.ranking)
+        entry.now.terms (symbol_polynomial v))
         && not (is_member (symbols_under book.now.ranking) (symbol_polynomial v)
         (state_in book.now state.now).inequations))) }
 {
@@ -56,10 +56,10 @@ fn factor_of(
     facts: &Facts,
 ) -> Result<Option<Symbol>, AllocError>
     requires stands { StandsIn book.now state.now }
-    requires entry { IsEntry book.now.ranking entry.now.terms.items entry.now.degrees.items }
-    requires facts { AreFactsOf book.now.ranking entry.now.terms.items facts.now }
+    requires entry { IsEntry book.now.ranking entry.now }
+    requires facts { AreFactsOf book.now.ranking entry.now.terms facts.now }
     ensures { IfOk result (λ o. o ≡ factor_of (symbols_under book.now.ranking)
-        (state_in book.now state.now) entry.now.terms.items) }
+        (state_in book.now state.now) entry.now.terms) }
 {
     if facts.is_undivided {
         return Ok(None);

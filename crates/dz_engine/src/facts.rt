@@ -6,7 +6,7 @@ ghost use Rattle.dz_algebra.specs.Size.{Refusal};
 ghost use Rattle.dz_poly.specs.Books.{BookValue, Lives, polynomial};
 ghost use Rattle.dz_rank.specs.declared.symbols.Symbol.{Symbol};
 ghost use Rattle.dz_terms.specs.Entries.{IsEntry};
-ghost use Rattle.dz_terms.specs.Ranked.{symbols_under};
+ghost use Rattle.dz_monomials.specs.Ranked.{symbols_under};
 ghost use Rattle.dz_diff.specs.States.{LiveAll, StandsIn, polynomials, state_in};
 ghost use Rattle.dz_step.specs.Divisors.{AreDivisors, IsKeptOf};
 ghost use Rattle.dz_step.specs.Step.{multiplier_answer, permitted_if};
@@ -16,8 +16,8 @@ ghost use Rattle.dz_engine.specs.Facts.{AreKnown, IsAnswer, IsKnown, IsMultiplie
 use dz_diff::{is_among, is_unit, leader_of};
 use dz_poly::{Book, Poly, PolyStop};
 use dz_rank::Symbol;
-use dz_step::{Divisor, State, Which, asked_divisor, is_divided, multiplier};
-use dz_terms::{Entry, into_norm};
+use dz_step::{Divisor, State, Which, asked_divisor, multiplier};
+use dz_terms::{Entry, into_norm, is_divided};
 use std::alloc::AllocError;
 
 /// A multiplier that fits: its norm, and whether it is ground, and ground and not zero.
@@ -48,8 +48,8 @@ pub(crate) struct Facts {
 
 /// What is found out of a multiplier that fits.
 fn known(book: &Book, multiplier: Entry) -> Multiplier
-    requires { IsEntry book.now.ranking multiplier.terms.items multiplier.degrees.items }
-    ensures { IsMultiplier book.now.ranking multiplier.terms.items result }
+    requires { IsEntry book.now.ranking multiplier }
+    ensures { IsMultiplier book.now.ranking multiplier.terms result }
 {
     // The book is for the contract alone.
     let _ = book;
@@ -69,9 +69,9 @@ fn asked(
     lead: Symbol,
     which: Which,
 ) -> Result<Option<Multiplier>, AllocError>
-    requires { IsEntry book.now.ranking q.now.terms.items q.now.degrees.items }
+    requires { IsEntry book.now.ranking q.now }
     ensures { IfOk result (λ o. IsAnswer book.now.ranking
-        (multiplier_answer (symbols_under book.now.ranking) which lead q.now.terms.items) o) }
+        (multiplier_answer (symbols_under book.now.ranking) which lead q.now.terms) o) }
 {
     match multiplier(book.allocator(), book.ranking(), q, lead, which) {
         Ok(multiplier) => Ok(Some(known(book, multiplier))),
@@ -82,8 +82,8 @@ fn asked(
 
 /// Whether no symbol divides an entry.
 fn is_undivided(book: &Book, q: &Entry) -> bool
-    requires { IsEntry book.now.ranking q.now.terms.items q.now.degrees.items }
-    ensures { result ≡ is_undivided (symbols_under book.now.ranking) q.now.terms.items }
+    requires { IsEntry book.now.ranking q.now }
+    ensures { result ≡ is_undivided (symbols_under book.now.ranking) q.now.terms }
 {
     let table = q.symbol_degrees();
     'symbols: for k in 0..table.len() {

@@ -3,7 +3,7 @@
 ghost use Rattle.std.specs.Prelude.{◌≡◌, ◌≤◌, ◌-◌, ◌+◌, ℕ, List, Some, Ok, IfOk, IfSome, [], ◌∷◌, map};
 ghost use Rattle.dz_rank.specs.Rankings.{RankingValue};
 ghost use Rattle.dz_terms.specs.Entries.{IsEntry};
-ghost use Rattle.dz_terms.specs.Ranked.{symbols_under};
+ghost use Rattle.dz_monomials.specs.Ranked.{symbols_under};
 ghost use Rattle.dz_diff.specs.Operations.{Setting, setting_of};
 ghost use Rattle.dz_diff.specs.State.{State as DefinedState};
 ghost use Rattle.dz_diff.specs.States.{StandsIn, state_in};
@@ -62,11 +62,11 @@ fn delta_course(
 ) -> Result<PairCourse, AllocError>
     requires stands { StandsIn book.now state.now }
     requires table { AreDivisors book.now.ranking (state_in book.now state.now) Free table.old.items }
-    requires delta { IsEntry book.now.ranking delta.terms.items delta.degrees.items }
+    requires delta { IsEntry book.now.ranking delta }
     ensures table { AreDivisors book.now.ranking (state_in book.now state.now) Free table.new.items }
     ensures course { IfOk result (λ x. (budget w i j : ℕ) → w ≤ budget → left ≡ budget - w
         → delta_at (setting_of book.now.ranking) (state_in book.now state.now) (i, j)
-        ≡ Ok delta.terms.items
+        ≡ Ok delta.terms
         → IsPairAt (symbols_under book.now.ranking) (state_in book.now state.now) i j
         → IsPairCourse (setting_of book.now.ranking) budget w (state_in book.now state.now)
         (i, j) x) }

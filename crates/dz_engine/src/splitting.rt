@@ -5,7 +5,7 @@ ghost use Rattle.dz_algebra.specs.Polynomial.{Polynomial};
 ghost use Rattle.dz_algebra.specs.Size.{Refusal};
 ghost use Rattle.dz_rank.specs.declared.symbols.Symbol.{Symbol};
 ghost use Rattle.dz_terms.specs.Entries.{IsEntry};
-ghost use Rattle.dz_terms.specs.Ranked.{symbols_under};
+ghost use Rattle.dz_monomials.specs.Ranked.{symbols_under};
 ghost use Rattle.dz_diff.specs.States.{StandsIn, state_in};
 ghost use Rattle.dz_diff.specs.Tests.{is_member};
 ghost use Rattle.dz_engine.specs.Facts.{AreFactsOf, AreKnown, IsAnswer, names_of};
@@ -22,9 +22,9 @@ use dz_terms::Entry;
 fn is_settled(book: &Book, state: &State, multiplier: &Multiplier) -> bool
     requires { StandsIn book.now state.now }
     ensures { result ≡ (multiplier.now.is_ground
-        || is_member (symbols_under book.now.ranking) multiplier.now.norm.terms.items
+        || is_member (symbols_under book.now.ranking) multiplier.now.norm.terms
         (state_in book.now state.now).equations
-        || is_member (symbols_under book.now.ranking) multiplier.now.norm.terms.items
+        || is_member (symbols_under book.now.ranking) multiplier.now.norm.terms
         (state_in book.now state.now).inequations) }
 {
     let norm = &multiplier.norm;
@@ -59,10 +59,10 @@ fn to_split_on(
 /// separant does not fit.
 fn to_split(book: &Book, state: &State, entry: &Entry, facts: &Facts) -> Option<Option<Which>>
     requires stands { StandsIn book.now state.now }
-    requires entry { IsEntry book.now.ranking entry.now.terms.items entry.now.degrees.items }
-    requires facts { AreFactsOf book.now.ranking entry.now.terms.items facts.now }
+    requires entry { IsEntry book.now.ranking entry.now }
+    requires facts { AreFactsOf book.now.ranking entry.now.terms facts.now }
     ensures { result ≡ to_split (symbols_under book.now.ranking) (state_in book.now state.now)
-        entry.now.terms.items }
+        entry.now.terms }
 {
     let Some(_) = leader_of(entry) else {
         return None;

@@ -2,7 +2,7 @@
 
 ghost use Rattle.std.specs.Prelude.{◌≡◌, ◌≤◌, ℕ, false, map, IfOk, OnOk, MatchResult};
 ghost use Rattle.dz_poly.specs.Books.{BookValue, IsKept};
-ghost use Rattle.dz_terms.specs.Ranked.{symbols_under};
+ghost use Rattle.dz_monomials.specs.Ranked.{symbols_under};
 ghost use Rattle.dz_diff.specs.Operations.{Setting, setting_of};
 ghost use Rattle.dz_diff.specs.State.{State as DefinedState};
 ghost use Rattle.dz_diff.specs.States.{IsStateOf, StandsIn, state_in};

@@ -14,8 +14,8 @@ use Rattle.dz_rank.specs.declared.rankings.Signature.{Signature}
 use Rattle.dz_rank.specs.declared.symbols.Symbol.{Symbol}
 use Rattle.dz_rank.specs.Rankings.{RankingValue, ranking_cmp}
 use Rattle.dz_rank.specs.Symbols.{BelongsTo, total_order}
-use Rattle.dz_terms.specs.Entries.{IsKeepable}
-use Rattle.dz_terms.specs.Ranked.{symbols_under}
+use Rattle.dz_monomials.specs.Keeping.{IsKeepable}
+use Rattle.dz_monomials.specs.Ranked.{symbols_under}
 use Rattle.dz_syntax.specs.Names.{Declared, signature_of}
 use Rattle.dz_form.specs.Texts.{IsReadablePower, IsReadableTerm, IsWritable}
 

@@ -10,18 +10,19 @@ use Rattle.dz_algebra.proofs.Inside.{in-append}
 use Rattle.dz_rank.specs.declared.symbols.Symbol as rank
 use Rattle.dz_rank.specs.Rankings.{RankingValue, ranking_cmp}
 use Rattle.dz_rank.specs.Symbols.{BelongsTo, total_order}
-use Rattle.dz_terms.specs.Entries.{IsKeepable}
-use Rattle.dz_terms.specs.Ranked.{symbols_under}
-use Rattle.dz_terms.specs.Terms.{constant_polynomial}
-use Rattle.dz_terms.proofs.Multiplying.{product_keepable, zero_entry}
-use Rattle.dz_terms.proofs.OneTerm.{number_entry, power_entry}
-use Rattle.dz_terms.proofs.Operations.{operation_keepable}
-use Rattle.dz_terms.proofs.SymbolLaws.{ranking_order}
+use Rattle.dz_monomials.specs.Keeping.{IsKeepable}
+use Rattle.dz_monomials.specs.Ranked.{symbols_under}
+use Rattle.dz_monomials.specs.Terms.{constant_polynomial}
+use Rattle.dz_monomials.proofs.Multiplying.{product_keepable, zero_entry}
+use Rattle.dz_monomials.proofs.OneTerm.{number_entry, power_entry}
+use Rattle.dz_monomials.proofs.Operations.{operation_keepable}
+use Rattle.dz_monomials.proofs.SymbolLaws.{ranking_order}
 use Rattle.dz_syntax.specs.declared.expression.Op.{Op}
 use Rattle.dz_syntax.specs.declared.expression.Op.TheVariants.{Number, Symbol, Negate, Add, Sub, Mul, Power}
 use Rattle.dz_syntax.specs.Postfix.{IsExpression, IsStep}
-use Rattle.dz_form.specs.Values.{◌>>=◌, Polynomials, item_answer, latest, onto, power_answer, step_answer, steps_answer, times}
-use Rattle.dz_sums.proofs.Negated.{negated_keepable}
+use Rattle.dz_algebra.specs.Outcome.{◌>>=◌}
+use Rattle.dz_form.specs.Values.{Polynomials, item_answer, latest, onto, power_answer, step_answer, steps_answer, times}
+use Rattle.dz_monomials.proofs.Negated.{negated_keepable}
 
 -- every value may stand in a book
 abbrev pub AreKeepable : RankingValue → Polynomials → Type 0

@@ -7,10 +7,10 @@ use Rattle.dz_algebra.proofs.Canonical.{collected}
 use Rattle.dz_algebra.proofs.Operations.{gathered_polynomial, operation_ok}
 use Rattle.dz_rank.specs.declared.symbols.Symbol.{Symbol}
 use Rattle.dz_rank.specs.Rankings.{RankingValue, ranking_cmp}
-use Rattle.dz_terms.specs.Entries.{IsKeepable}
-use Rattle.dz_terms.specs.Ranked.{symbols_under}
-use Rattle.dz_terms.proofs.SymbolLaws.{ranking_order}
-use Rattle.dz_sums.proofs.Changes.{amounts_in_range, same_keys}
+use Rattle.dz_monomials.specs.Keeping.{IsKeepable}
+use Rattle.dz_monomials.specs.Ranked.{symbols_under}
+use Rattle.dz_monomials.proofs.SymbolLaws.{ranking_order}
+use Rattle.dz_monomials.proofs.Changes.{amounts_in_range, same_keys}
 
 -- the operation whose contributions are a polynomial that may stand in a book answers that polynomial
 pub operation_keeps : (r : RankingValue) (p : Polynomial Symbol) → IsKeepable r p → operation (symbols_under r) p ≡ Ok p

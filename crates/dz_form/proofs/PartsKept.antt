@@ -14,11 +14,11 @@ use Rattle.dz_algebra.proofs.Monomials.{exponent_product}
 use Rattle.dz_rank.specs.declared.symbols.Symbol.{Symbol}
 use Rattle.dz_rank.specs.Rankings.{RankingValue, ranking_cmp}
 use Rattle.dz_rank.specs.Symbols.{BelongsTo}
-use Rattle.dz_terms.specs.Entries.{IsKeepable}
-use Rattle.dz_terms.specs.Ranked.{symbols_under}
-use Rattle.dz_terms.proofs.Below.{small_below}
-use Rattle.dz_terms.proofs.SymbolLaws.{ranking_order}
-use Rattle.dz_terms.proofs.SupportLaws.{greatest_exponent, keys_monomials}
+use Rattle.dz_monomials.specs.Keeping.{IsKeepable}
+use Rattle.dz_monomials.specs.Ranked.{symbols_under}
+use Rattle.dz_monomials.proofs.Below.{small_below}
+use Rattle.dz_monomials.proofs.SymbolLaws.{ranking_order}
+use Rattle.dz_monomials.proofs.SupportLaws.{greatest_exponent, keys_monomials}
 
 -- ---- fronts and backs of lists
 

@@ -11,34 +11,34 @@ use Rattle.dz_rank.specs.declared.symbols.Symbol.{Symbol}
 use Rattle.dz_syntax.specs.declared.expression.Op.{Op}
 use Rattle.dz_syntax.specs.declared.expression.Op.TheVariants.{Add, Sub, Mul, Power}
 use Rattle.dz_terms.specs.Entries.{IsEntry}
-use Rattle.dz_terms.specs.Signs.{with_sign}
-use Rattle.dz_terms.specs.Stops.{IsStop}
-use Rattle.dz_terms.specs.declared.PolyStop.{PolyStop}
-use Rattle.dz_terms.specs.declared.entry.Entry.{Entry}
-use Rattle.dz_terms.specs.declared.sums.Sign.TheVariants.{Plus, Minus}
-use Rattle.dz_terms.proofs.Summing.{minus_negates, plus_same}
+use Rattle.dz_monomials.specs.Signs.{with_sign}
+use Rattle.dz_monomials.specs.Stops.{IsStop}
+use Rattle.dz_monomials.specs.declared.PolyStop.{PolyStop}
+use Rattle.dz_terms.specs.Entries.{EntryValue}
+use Rattle.dz_monomials.specs.declared.sign.Sign.TheVariants.{Plus, Minus}
+use Rattle.dz_monomials.proofs.Summing.{minus_negates, plus_same}
 use Rattle.dz_form.specs.Values.{AreEntries, Polynomials, onto, power_answer, step_answer, values_of}
 
 -- a value on top of a stack is its latest
-pub values_more : (stack more : List Entry) (e : Entry) → more ≡ stack ++ e ∷ [] → values_of more ≡ e.terms.items ∷ values_of stack
+pub values_more : (stack more : List EntryValue) (e : EntryValue) → more ≡ stack ++ e ∷ [] → values_of more ≡ e.terms ∷ values_of stack
 values_more stack more e is =
-    ap values_of is ∙ ap reverse (map-append (λ (e : Entry). e.terms.items) stack (e ∷ [])) ∙ reverse-append (map (λ (e : Entry). e.terms.items) stack) (e.terms.items ∷ [])
+    ap values_of is ∙ ap reverse (map-append (λ (e : EntryValue). e.terms) stack (e ∷ [])) ∙ reverse-append (map (λ (e : EntryValue). e.terms) stack) (e.terms ∷ [])
 
 -- the latest entry of a stack, and those below it
-popped : (r : RankingValue) (stack more : List Entry) (e : Entry) → more ≡ stack ++ e ∷ [] → AreEntries r more → AreEntries r stack × IsEntry r e.terms.items e.degrees.items
-popped r stack more e is h = All-pop (λ (e : Entry). IsEntry r e.terms.items e.degrees.items) more stack (Some e) is h
+popped : (r : RankingValue) (stack more : List EntryValue) (e : EntryValue) → more ≡ stack ++ e ∷ [] → AreEntries r more → AreEntries r stack × IsEntry r e
+popped r stack more e is h = All-pop (λ (e : EntryValue). IsEntry r e) more stack (Some e) is h
 
 -- the latest entry of a stack
-pub entry_taken : (r : RankingValue) (stack more : List Entry) (e : Entry) → more ≡ stack ++ e ∷ [] → AreEntries r more → IsEntry r e.terms.items e.degrees.items
+pub entry_taken : (r : RankingValue) (stack more : List EntryValue) (e : EntryValue) → more ≡ stack ++ e ∷ [] → AreEntries r more → IsEntry r e
 entry_taken r stack more e is h = (popped r stack more e is h).1
 
 -- the entries below it
-pub entries_left : (r : RankingValue) (stack more : List Entry) (e : Entry) → more ≡ stack ++ e ∷ [] → AreEntries r more → AreEntries r stack
+pub entries_left : (r : RankingValue) (stack more : List EntryValue) (e : EntryValue) → more ≡ stack ++ e ∷ [] → AreEntries r more → AreEntries r stack
 entries_left r stack more e is h = (popped r stack more e is h).0
 
 -- an entry on top of others
-pub entries_more : (r : RankingValue) (stack more : List Entry) (e : Entry) → more ≡ stack ++ e ∷ [] → AreEntries r stack → IsEntry r e.terms.items e.degrees.items → AreEntries r more
-entries_more r stack more e is h k = subst (AreEntries r) (sym is) (All-push (λ (e : Entry). IsEntry r e.terms.items e.degrees.items) stack e h k)
+pub entries_more : (r : RankingValue) (stack more : List EntryValue) (e : EntryValue) → more ≡ stack ++ e ∷ [] → AreEntries r stack → IsEntry r e → AreEntries r more
+entries_more r stack more e is h k = subst (AreEntries r) (sym is) (All-push (λ (e : EntryValue). IsEntry r e) stack e h k)
 
 module _ (g : Symbols Symbol) where
   -- the refusal of an operation is that of its step

@@ -15,15 +15,16 @@ use Rattle.dz_algebra.specs.Symbols.{Symbols}
 use Rattle.dz_rank.specs.declared.symbols.Symbol.{Symbol}
 use Rattle.dz_rank.specs.Rankings.{RankingValue, ranking_cmp}
 use Rattle.dz_rank.specs.Symbols.{BelongsTo, total_order}
-use Rattle.dz_terms.specs.Entries.{IsKeepable}
-use Rattle.dz_terms.specs.Ranked.{symbols_under}
-use Rattle.dz_terms.specs.Terms.{constant_polynomial}
-use Rattle.dz_terms.proofs.OneTerm.{power_entry}
-use Rattle.dz_terms.proofs.SymbolLaws.{ranking_order}
+use Rattle.dz_monomials.specs.Keeping.{IsKeepable}
+use Rattle.dz_monomials.specs.Ranked.{symbols_under}
+use Rattle.dz_monomials.specs.Terms.{constant_polynomial}
+use Rattle.dz_monomials.proofs.OneTerm.{power_entry}
+use Rattle.dz_monomials.proofs.SymbolLaws.{ranking_order}
 use Rattle.dz_syntax.specs.declared.expression.Op.{Op}
 use Rattle.dz_syntax.specs.declared.expression.Op.TheVariants as ops
 use Rattle.dz_form.specs.Steps.{factor_steps, more_terms_steps, polynomial_steps, power_steps, term_steps}
-use Rattle.dz_form.specs.Values.{◌>>=◌, Polynomials, item_answer, latest, onto, power_answer, steps_answer, step_answer, times}
+use Rattle.dz_algebra.specs.Outcome.{◌>>=◌}
+use Rattle.dz_form.specs.Values.{Polynomials, item_answer, latest, onto, power_answer, steps_answer, step_answer, times}
 use Rattle.dz_form.proofs.FitPowers.{IsFitPower, fit_back, keepable_fits}
 use Rattle.dz_form.proofs.Keeping.{operation_keeps}
 use Rattle.dz_form.proofs.PartsKept.{back_keepable, coefficient_keepable, front_keepable, powers_keepable, product_appends}

@@ -4,10 +4,11 @@ use Rattle.dz_algebra.specs.Polynomial.{Polynomial}
 use Rattle.dz_algebra.specs.Size.{Refusal, product_answer}
 use Rattle.dz_algebra.specs.Symbols.{Symbols}
 use Rattle.dz_rank.specs.declared.symbols.Symbol.{Symbol}
-use Rattle.dz_terms.specs.Stops.{IsStop}
-use Rattle.dz_terms.specs.declared.PolyStop.{PolyStop}
-use Rattle.dz_terms.specs.Terms.{constant_polynomial}
-use Rattle.dz_form.specs.Values.{◌>>=◌, power_answer, times}
+use Rattle.dz_monomials.specs.Stops.{IsStop}
+use Rattle.dz_monomials.specs.declared.PolyStop.{PolyStop}
+use Rattle.dz_monomials.specs.Terms.{constant_polynomial}
+use Rattle.dz_algebra.specs.Outcome.{◌>>=◌}
+use Rattle.dz_form.specs.Values.{power_answer, times}
 
 module _ (g : Symbols Symbol) (a : Polynomial Symbol) where
   -- the first of some products

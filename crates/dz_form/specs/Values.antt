@@ -1,20 +1,16 @@
 -- The value of an item (this project): its steps are folded from left to right, and each is an operation on polynomials.
 use Rattle.std.specs.Prelude.{◌≤◌, ⊤, ℕ, zero, suc, All, List, [], ◌∷◌, map, reverse, pos, Result, Ok, Err}
+use Rattle.dz_algebra.specs.Outcome.{◌>>=◌}
 use Rattle.dz_algebra.specs.Polynomial.{Polynomial, polynomial_negative, symbol_polynomial}
 use Rattle.dz_algebra.specs.Size.{Refusal, difference_answer, product_answer, sum_answer}
 use Rattle.dz_algebra.specs.Symbols.{Symbols}
 use Rattle.dz_rank.specs.Rankings.{RankingValue}
 use Rattle.dz_rank.specs.declared.symbols.Symbol as rank
 use Rattle.dz_terms.specs.Entries.{IsEntry}
-use Rattle.dz_terms.specs.Terms.{constant_polynomial}
-use Rattle.dz_terms.specs.declared.entry.Entry.{Entry}
+use Rattle.dz_monomials.specs.Terms.{constant_polynomial}
+use Rattle.dz_terms.specs.Entries.{EntryValue}
 use Rattle.dz_syntax.specs.declared.expression.Op.{Op}
 use Rattle.dz_syntax.specs.declared.expression.Op.TheVariants.{Number, Symbol, Negate, Add, Sub, Mul, Power}
-
-infixl 10 ◌>>=◌
-abbrev pub ◌>>=◌ : {A B E : Type 0} → Result A E → (A → Result B E) → Result B E
-Ok a >>= f = f a
-Err e >>= f = Err e
 
 abbrev pub Polynomials : Type 0
 Polynomials = List (Polynomial rank.Symbol)
@@ -61,12 +57,12 @@ unfoldable pub item_answer : Symbols rank.Symbol → List Op → Result (Polynom
 item_answer g steps = steps_answer g steps [] >>= λ values. Ok (latest values)
 
 -- the values on a stack, the latest first
-abbrev pub values_of : List Entry → Polynomials
-values_of stack = reverse (map (λ e. e.terms.items) stack)
+abbrev pub values_of : List EntryValue → Polynomials
+values_of stack = reverse (map (λ e. e.terms) stack)
 
 -- each value on a stack may stand in a book
-abbrev pub AreEntries : RankingValue → List Entry → Type 0
-AreEntries r stack = All (λ e. IsEntry r e.terms.items e.degrees.items) stack
+abbrev pub AreEntries : RankingValue → List EntryValue → Type 0
+AreEntries r stack = All (λ e. IsEntry r e) stack
 
 -- a step finds the values that it uses among so many
 abbrev pub HasValues : Op → ℕ → Type 0

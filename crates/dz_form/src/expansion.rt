@@ -3,24 +3,24 @@
 //! The values that are not used yet stand on a stack, the latest last: what a step uses is taken
 //! from it, and what it makes comes on top. The book is touched once, when the value is kept.
 
-ghost use Rattle.std.specs.Prelude.{◌≡◌, ◌<◌, ◌∷◌, ◌++◌, [], length, Ok, IfOk, IfErr, OnErr, OnOk};
+ghost use Rattle.std.specs.Prelude.{◌≡◌, ◌<◌, ◌∷◌, ◌++◌, [], length, Ok, IfOk, IfErr, OnOk};
 ghost use Rattle.dz_algebra.specs.Size.{operation};
-ghost use Rattle.dz_poly.specs.Books.{Gives, IsAdded, IsKept};
+ghost use Rattle.dz_poly.specs.Books.{Makes};
 ghost use Rattle.dz_rank.specs.Rankings.{RankingValue};
 ghost use Rattle.dz_syntax.specs.Postfix.{IsExpression, IsStep};
 ghost use Rattle.dz_syntax.specs.declared.expression.Op.TheVariants as ops;
+ghost use Rattle.dz_terms.specs.Answers.{Answers};
 ghost use Rattle.dz_terms.specs.Entries.{IsEntry};
-ghost use Rattle.dz_terms.specs.Ranked.{symbols_under};
-ghost use Rattle.dz_terms.specs.Signs.{with_sign};
-ghost use Rattle.dz_terms.specs.Stops.{IsStop};
+ghost use Rattle.dz_monomials.specs.Ranked.{symbols_under};
+ghost use Rattle.dz_monomials.specs.Signs.{with_sign};
+ghost use Rattle.dz_monomials.specs.Stops.{IsStop};
 ghost use Rattle.dz_form.specs.Values.{AreEntries, HasValues, item_answer, power_answer};
 ghost use Rattle.dz_form.specs.Values.{step_answer, times, values_of};
 
 use dz_poly::{Book, Poly, PolyStop};
 use dz_rank::Ranking;
-use dz_sums::{negative, sum_in_place};
 use dz_syntax::{Item, Op};
-use dz_terms::{Entry, Sign, copied, number, power, product, sum};
+use dz_terms::{Entry, Sign, copied, negative, number, power, product, sum, sum_in_place};
 use std::alloc::Global;
 
 #[tactic(auto, using(crate::proofs::Stacks::values_more, crate::proofs::Stacks::entry_taken, crate::proofs::Stacks::entries_left))]
@@ -29,9 +29,9 @@ fn take_latest(values: &mut Vec<Entry>) -> Entry
     requires { 0 < length values.old.items }
     ensures items { values.old.items ≡ values.new.items ++ result ∷ [] }
     ensures value { values_of values.old.items
-        ≡ result.terms.items ∷ values_of values.new.items }
+        ≡ result.terms ∷ values_of values.new.items }
     ensures entry { (r : RankingValue) → AreEntries r values.old.items
-        → IsEntry r result.terms.items result.degrees.items }
+        → IsEntry r result }
     ensures entries { (r : RankingValue) → AreEntries r values.old.items
         → AreEntries r values.new.items }
 {
@@ -45,15 +45,16 @@ fn take_latest(values: &mut Vec<Entry>) -> Entry
 fn negate_latest(values: &mut Vec<Entry>) -> Entry
     requires { 0 < length values.old.items }
     ensures made { (r : RankingValue) → step_answer (symbols_under r) ops.Negate
-        (values_of values.old.items) ≡ Ok (result.terms.items ∷ values_of values.new.items) }
+        (values_of values.old.items) ≡ Ok (result.terms ∷ values_of values.new.items) }
     ensures entry { (r : RankingValue) → AreEntries r values.old.items
-        → IsEntry r result.terms.items result.degrees.items }
+        → IsEntry r result }
     ensures entries { (r : RankingValue) → AreEntries r values.old.items
         → AreEntries r values.new.items }
 {
     negative(take_latest(values))
 }
 
+#[tactic(auto, using(dz_terms::proofs::Answered::answered, dz_terms::proofs::Answered::stopped))]
 /// The sum of two polynomials, the second taken with a sign. A term more is put into the first in
 /// place, so that a long sum is not copied at each of its terms.
 fn summed(
@@ -63,14 +64,10 @@ fn summed(
     sign: Sign,
     second: Entry,
 ) -> Result<Entry, PolyStop>
-    requires first { IsEntry ranking.now first.terms.items first.degrees.items }
-    requires second { IsEntry ranking.now second.terms.items second.degrees.items }
-    ensures ok { IfOk result (λ sum. operation (symbols_under ranking.now)
-        (first.terms.items ++ with_sign sign second.terms.items) ≡ Ok sum.terms.items) }
-    ensures entry { IfOk result (λ sum.
-        IsEntry ranking.now sum.terms.items sum.degrees.items) }
-    ensures refused { IfErr result (λ e. IsStop e (operation (symbols_under ranking.now)
-        (first.terms.items ++ with_sign sign second.terms.items))) }
+    requires first { IsEntry ranking.now first }
+    requires second { IsEntry ranking.now second }
+    ensures { Answers ranking.now result
+        (operation (symbols_under ranking.now) (first.terms ++ with_sign sign second.terms)) }
 {
     if second.term_count() == 1 {
         return sum_in_place(alloc, ranking, first, sign, second);
@@ -83,8 +80,8 @@ fn add_latest(alloc: Global, ranking: &Ranking, values: &mut Vec<Entry>) -> Resu
     requires enough { 1 < length values.old.items }
     requires entries { AreEntries ranking.now values.old.items }
     ensures made { IfOk result (λ e. step_answer (symbols_under ranking.now) ops.Add
-        (values_of values.old.items) ≡ Ok (e.terms.items ∷ values_of values.new.items)) }
-    ensures entry { IfOk result (λ e. IsEntry ranking.now e.terms.items e.degrees.items) }
+        (values_of values.old.items) ≡ Ok (e.terms ∷ values_of values.new.items)) }
+    ensures entry { IfOk result (λ e. IsEntry ranking.now e) }
     ensures entries { AreEntries ranking.now values.new.items }
     ensures refused { IfErr result (λ stop. IsStop stop
         (step_answer (symbols_under ranking.now) ops.Add (values_of values.old.items))) }
@@ -105,8 +102,8 @@ fn subtract_latest(
     requires enough { 1 < length values.old.items }
     requires entries { AreEntries ranking.now values.old.items }
     ensures made { IfOk result (λ e. step_answer (symbols_under ranking.now) ops.Sub
-        (values_of values.old.items) ≡ Ok (e.terms.items ∷ values_of values.new.items)) }
-    ensures entry { IfOk result (λ e. IsEntry ranking.now e.terms.items e.degrees.items) }
+        (values_of values.old.items) ≡ Ok (e.terms ∷ values_of values.new.items)) }
+    ensures entry { IfOk result (λ e. IsEntry ranking.now e) }
     ensures entries { AreEntries ranking.now values.new.items }
     ensures refused { IfErr result (λ stop. IsStop stop
         (step_answer (symbols_under ranking.now) ops.Sub (values_of values.old.items))) }
@@ -127,8 +124,8 @@ fn multiply_latest(
     requires enough { 1 < length values.old.items }
     requires entries { AreEntries ranking.now values.old.items }
     ensures made { IfOk result (λ e. step_answer (symbols_under ranking.now) ops.Mul
-        (values_of values.old.items) ≡ Ok (e.terms.items ∷ values_of values.new.items)) }
-    ensures entry { IfOk result (λ e. IsEntry ranking.now e.terms.items e.degrees.items) }
+        (values_of values.old.items) ≡ Ok (e.terms ∷ values_of values.new.items)) }
+    ensures entry { IfOk result (λ e. IsEntry ranking.now e) }
     ensures entries { AreEntries ranking.now values.new.items }
     ensures refused { IfErr result (λ stop. IsStop stop
         (step_answer (symbols_under ranking.now) ops.Mul (values_of values.old.items))) }
@@ -139,15 +136,12 @@ fn multiply_latest(
     Ok(product)
 }
 
-#[tactic(auto, using(crate::proofs::Times::times_more, crate::proofs::Times::times_done, crate::proofs::Times::times_refused))]
+#[tactic(auto, using(dz_terms::proofs::Answered::answered, dz_terms::proofs::Answered::stopped, crate::proofs::Times::times_more, crate::proofs::Times::times_done, crate::proofs::Times::times_refused))]
 /// A polynomial times itself, so often, from left to right.
 fn times(alloc: Global, ranking: &Ranking, base: &Entry, count: u16) -> Result<Entry, PolyStop>
-    requires { IsEntry ranking.now base.now.terms.items base.now.degrees.items }
-    ensures ok { IfOk result (λ e. times (symbols_under ranking.now)
-        base.now.terms.items count base.now.terms.items ≡ Ok e.terms.items) }
-    ensures entry { IfOk result (λ e. IsEntry ranking.now e.terms.items e.degrees.items) }
-    ensures refused { IfErr result (λ stop. IsStop stop (times (symbols_under ranking.now)
-        base.now.terms.items count base.now.terms.items)) }
+    requires { IsEntry ranking.now base.now }
+    ensures { Answers ranking.now result
+        (times (symbols_under ranking.now) base.now.terms count base.now.terms) }
 {
     let mut all = copied(alloc, base)?;
     'factors: for _ in 0..count {
@@ -156,15 +150,12 @@ fn times(alloc: Global, ranking: &Ranking, base: &Entry, count: u16) -> Result<E
     Ok(all)
 }
 
-#[tactic(auto, using(crate::proofs::Times::power_is, crate::proofs::Times::one_power))]
+#[tactic(auto, using(dz_terms::proofs::Answered::answered, dz_terms::proofs::Answered::stopped, crate::proofs::Times::power_is, crate::proofs::Times::one_power))]
 /// The power of a polynomial.
 fn raised(alloc: Global, ranking: &Ranking, base: &Entry, exponent: u16) -> Result<Entry, PolyStop>
-    requires { IsEntry ranking.now base.now.terms.items base.now.degrees.items }
-    ensures ok { IfOk result (λ e. power_answer (symbols_under ranking.now)
-        base.now.terms.items exponent ≡ Ok e.terms.items) }
-    ensures entry { IfOk result (λ e. IsEntry ranking.now e.terms.items e.degrees.items) }
-    ensures refused { IfErr result (λ stop. IsStop stop (power_answer (symbols_under ranking.now)
-        base.now.terms.items exponent)) }
+    requires { IsEntry ranking.now base.now }
+    ensures { Answers ranking.now result
+        (power_answer (symbols_under ranking.now) base.now.terms exponent) }
 {
     if exponent == 0 {
         let one = number(alloc, 1)?;
@@ -185,8 +176,8 @@ fn raise_latest(
     requires enough { 0 < length values.old.items }
     requires entries { AreEntries ranking.now values.old.items }
     ensures made { IfOk result (λ e. step_answer (symbols_under ranking.now) (ops.Power exponent)
-        (values_of values.old.items) ≡ Ok (e.terms.items ∷ values_of values.new.items)) }
-    ensures entry { IfOk result (λ e. IsEntry ranking.now e.terms.items e.degrees.items) }
+        (values_of values.old.items) ≡ Ok (e.terms ∷ values_of values.new.items)) }
+    ensures entry { IfOk result (λ e. IsEntry ranking.now e) }
     ensures entries { AreEntries ranking.now values.new.items }
     ensures refused { IfErr result (λ stop. IsStop stop (step_answer (symbols_under ranking.now)
         (ops.Power exponent) (values_of values.old.items))) }
@@ -207,8 +198,8 @@ fn made(
     requires enough { HasValues op (length values.old.items) }
     requires entries { AreEntries ranking.now values.old.items }
     ensures made { IfOk result (λ e. step_answer (symbols_under ranking.now) op
-        (values_of values.old.items) ≡ Ok (e.terms.items ∷ values_of values.new.items)) }
-    ensures entry { IfOk result (λ e. IsEntry ranking.now e.terms.items e.degrees.items) }
+        (values_of values.old.items) ≡ Ok (e.terms ∷ values_of values.new.items)) }
+    ensures entry { IfOk result (λ e. IsEntry ranking.now e) }
     ensures entries { AreEntries ranking.now values.new.items }
     ensures refused { IfErr result (λ stop. IsStop stop
         (step_answer (symbols_under ranking.now) op (values_of values.old.items))) }
@@ -247,14 +238,11 @@ fn step(alloc: Global, ranking: &Ranking, values: &mut Vec<Entry>, op: Op) -> Re
     Ok(())
 }
 
+#[tactic(auto, using(dz_terms::proofs::Answered::answered, dz_terms::proofs::Answered::stopped))]
 /// The value of an item as an entry.
 fn value_of(alloc: Global, ranking: &Ranking, item: &Item) -> Result<Entry, PolyStop>
     requires { IsExpression ranking.now.signature item.now }
-    ensures ok { IfOk result (λ e.
-        item_answer (symbols_under ranking.now) item.now ≡ Ok e.terms.items) }
-    ensures entry { IfOk result (λ e. IsEntry ranking.now e.terms.items e.degrees.items) }
-    ensures refused { IfErr result (λ stop. IsStop stop
-        (item_answer (symbols_under ranking.now) item.now)) }
+    ensures { Answers ranking.now result (item_answer (symbols_under ranking.now) item.now) }
 {
     let mut values = Vec::new(alloc);
     'steps: for op in item.steps() {
@@ -263,13 +251,11 @@ fn value_of(alloc: Global, ranking: &Ranking, item: &Item) -> Result<Entry, Poly
     Ok(take_latest(&mut values))
 }
 
+#[tactic(auto, using(dz_poly::proofs::Makings::made, dz_poly::proofs::Makings::stopped, dz_poly::proofs::Makings::no_memory,))]
 /// The value of an item, or the refusal of the first of its operations that is refused.
 pub fn expand(alloc: Global, book: &mut Book, item: &Item) -> Result<Poly, PolyStop>
     requires { IsExpression book.old.ranking.signature item.now }
-    ensures value { Gives book.new result (item_answer (symbols_under book.old.ranking) item.now) }
-    ensures kept { OnOk result (IsKept book.old book.new) }
-    ensures added { IfOk result (λ p. IsAdded book.old book.new p) }
-    ensures refused { OnErr result (book.new ≡ book.old) }
+    ensures { Makes book.old book.new result (item_answer (symbols_under book.old.ranking) item.now) }
 {
     let value = value_of(alloc, book.ranking(), item)?;
     Ok(book.keep(value)?)

@@ -2,7 +2,7 @@
 
 ghost use Rattle.std.specs.Prelude.{◌≡◌, ◌≤◌, sum};
 ghost use Rattle.dz_algebra.specs.Polynomial.{Polynomial};
-ghost use Rattle.dz_terms.specs.Entries.{IsKeepable};
+ghost use Rattle.dz_monomials.specs.Keeping.{IsKeepable};
 ghost use Rattle.dz_rank.specs.Rankings.{RankingValue};
 ghost use Rattle.dz_rank.specs.declared.symbols.Operator.{Operator};
 ghost use Rattle.dz_rank.specs.declared.symbols.Symbol.{Symbol};

@@ -4,8 +4,8 @@ ghost use Rattle.std.specs.Prelude.{◌≡◌, ◌≢◌, IfOk, OnErr, OnOk, Err
 ghost use Rattle.dz_algebra.specs.Polynomial.{Polynomial};
 ghost use Rattle.dz_rank.specs.declared.symbols.Symbol.{Symbol};
 ghost use Rattle.dz_poly.specs.Books.{IsAdded, IsKept};
-ghost use Rattle.dz_terms.specs.Entries.{IsKeepable};
-ghost use Rattle.dz_terms.specs.Ranked.{symbols_under};
+ghost use Rattle.dz_monomials.specs.Keeping.{IsKeepable};
+ghost use Rattle.dz_monomials.specs.Ranked.{symbols_under};
 ghost use Rattle.dz_syntax.specs.Names.{signature_of};
 ghost use Rattle.dz_syntax.specs.declared.fault.SyntaxFault.{SyntaxFault};
 ghost use Rattle.dz_syntax.specs.declared.fault.SyntaxKind.TheVariants as kinds;

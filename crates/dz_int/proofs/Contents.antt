@@ -6,8 +6,8 @@ use Rattle.std.proofs.lemmas.List.Elements.{All-push, All-take}
 use Rattle.std.proofs.lemmas.Nat.Gcd.{dvd-zero, dvd_trans}
 use Rattle.std.proofs.Math.Nat.{one-dvd}
 use Rattle.dz_int.specs.Numbers.{IsContent}
-use Rattle.dz_int.specs.Euclid.{gcd}
-use Rattle.dz_int.proofs.Coprime.{gcd_is}
+use Rattle.dz_algebra.specs.Norm.{gcd}
+use Rattle.dz_algebra.proofs.Divisors.{gcd_is}
 
 pub content_of_none : (vs : List ℤ) → IsContent (take 0 vs) 0
 content_of_none vs = record { divides = λ k d h. absurd (omega arith); largest = λ d p. dvd-zero d }

@@ -3,8 +3,10 @@ use Rattle.std.proofs.Common.{◌≡◌, ◌<◌, ◌≤◌, ◌*◌, ◌/◌, �
 use Rattle.std.specs.Int.{◌∣◌}
 use Rattle.std.proofs.lemmas.Nat.Gcd.{mod-eq-zero_of_dvd}
 use Rattle.dz_int.specs.Numbers.{greatest}
-use Rattle.dz_int.specs.Euclid.{gcd, AreParts, HasNoParts, IsCrossReduced}
-use Rattle.dz_int.proofs.Coprime.{gcd_is, gcd_product, gcd_swap, coprime_parts, coprime_quotients, same_parts}
+use Rattle.dz_algebra.specs.Norm.{gcd}
+use Rattle.dz_int.specs.Euclid.{AreParts, HasNoParts, IsCrossReduced}
+use Rattle.dz_algebra.proofs.Divisors.{gcd_is}
+use Rattle.dz_int.proofs.Coprime.{gcd_product, gcd_swap, coprime_parts, coprime_quotients, same_parts}
 
 -- a multiple is its divisor times the quotient
 pub quotient : (k n : ℕ) → k ∣ n → k * (n / k) ≡ n

@@ -1,4 +1,3 @@
-pub mod Euclidean
 pub mod Coprime
 pub mod Contents
 pub mod Signs

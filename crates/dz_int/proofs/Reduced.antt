@@ -7,8 +7,10 @@ use mathlib.Core.Bool.{beq}
 use Rattle.std.proofs.lemmas.Nat.Gcd.{same_from_IsGcd}
 use Rattle.dz_int.specs.Numbers.{greatest, signed}
 use Rattle.dz_int.specs.Fractions.{Fraction, IsFraction, HasValue, LeavesRange}
-use Rattle.dz_int.specs.Euclid.{gcd, AreParts, HasNoParts}
-use Rattle.dz_int.proofs.Coprime.{gcd_is, gcd_swap, coprime_quotients}
+use Rattle.dz_algebra.specs.Norm.{gcd}
+use Rattle.dz_int.specs.Euclid.{AreParts, HasNoParts}
+use Rattle.dz_algebra.proofs.Divisors.{gcd_is}
+use Rattle.dz_int.proofs.Coprime.{gcd_swap, coprime_quotients}
 use Rattle.dz_int.proofs.Cross.{quotient, divisor_positive, quotient_positive}
 use Rattle.dz_int.proofs.Signs.{unsigned_abs_signed, signed_pos, product_by_sign, neg_by_sign}
 

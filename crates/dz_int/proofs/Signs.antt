@@ -6,25 +6,10 @@ use Rattle.std.proofs.lemmas.Int.{ints, to_z-of_z, to_z_pos, fits_signed_from_ab
 use mathlib.Core.Bool.{beq}
 use mir.Syntax.{w128}
 use mir.Val.{SFits, of_z, to_z}
-use borrow.Author.Differences.{up, down, same_in, product_is, sum_is_lem}
+use borrow.Author.Differences.{up, down, same_in}
 use Rattle.std.proofs.Math.IntN.{*ℤ_comm, zero-*ℤ, *ℤ-zero, pos-*ℤ-pos, negsuc-*ℤ-negsuc, negsuc-*ℤ-pos, pos-*ℤ-negsuc}
+use Rattle.dz_algebra.specs.Whole.{up_mul, down_mul, *ℤ_assoc, *ℤ-+ℤ}
 use Rattle.dz_int.specs.Numbers.{greatest, signed}
-
-up_mul : (a b : ℤ) → up (a *ℤ b) ≡ up a * up b + down a * down b
-up_mul a b = (product_is a b).0
-
-down_mul : (a b : ℤ) → down (a *ℤ b) ≡ up a * down b + down a * up b
-down_mul a b = (product_is a b).1
-
-pub *ℤ_assoc : (a b c : ℤ) → (a *ℤ b) *ℤ c ≡ a *ℤ (b *ℤ c)
-*ℤ_assoc a b c = same_in _ _ (simp (up_mul, down_mul) (omega arith))
-
-pub *ℤ-+ℤ : (a b c : ℤ) → a *ℤ (b +ℤ c) ≡ a *ℤ b +ℤ a *ℤ c
-*ℤ-+ℤ a b c =
-    let e : up a * (up (b +ℤ c) + down b + down c) ≡ up a * (down (b +ℤ c) + up b + up c) = ap (λ x. up a * x) (sum_is_lem b c) in
-    let f : down a * (up (b +ℤ c) + down b + down c) ≡ down a * (down (b +ℤ c) + up b + up c) = ap (λ x. down a * x) (sum_is_lem b c) in
-    let g = sum_is_lem (a *ℤ b) (a *ℤ c) in
-    same_in _ _ (omega (arith, up_mul, down_mul, e, f, g))
 
 pub +ℤ-*ℤ : (a b c : ℤ) → (a +ℤ b) *ℤ c ≡ a *ℤ c +ℤ b *ℤ c
 +ℤ-*ℤ a b c = *ℤ_comm (a +ℤ b) c ∙ *ℤ-+ℤ c a b ∙ ap₂ (λ x y. x +ℤ y) (*ℤ_comm c a) (*ℤ_comm c b)

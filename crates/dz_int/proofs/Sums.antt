@@ -3,13 +3,15 @@ use Rattle.std.proofs.Common.{◌≡◌, ◌<◌, ◌≤◌, ◌+◌, ◌*◌, �
 use Rattle.std.specs.Int.{IsGcd, ◌∣◌, is_negative}
 use Rattle.std.proofs.Math.IntN.{pos-*ℤ-pos}
 use Rattle.std.proofs.lemmas.Nat.Gcd.{same_from_IsGcd}
+use Rattle.dz_algebra.specs.Whole.{*ℤ_assoc}
 use Rattle.dz_int.specs.Numbers.{greatest, signed}
 use Rattle.dz_int.specs.Fractions.{Fraction, HasValue, SumPasses}
-use Rattle.dz_int.specs.Euclid.{gcd, AreSumParts}
-use Rattle.dz_int.proofs.Coprime.{gcd_is}
+use Rattle.dz_algebra.specs.Norm.{gcd}
+use Rattle.dz_int.specs.Euclid.{AreSumParts}
+use Rattle.dz_algebra.proofs.Divisors.{gcd_is}
 use Rattle.dz_int.proofs.Cross.{quotient, quotient_positive}
 use Rattle.dz_int.proofs.Reduced.{common_positive}
-use Rattle.dz_int.proofs.Signs.{*ℤ_assoc, +ℤ-*ℤ, abs_of_sum_of_products, by_sign, cancel_pos, factors_swap}
+use Rattle.dz_int.proofs.Signs.{+ℤ-*ℤ, abs_of_sum_of_products, by_sign, cancel_pos, factors_swap}
 
 pub divisor_is_positive : (b d g : ℕ) → 0 < d → g ≡ gcd b d → 0 < g
 divisor_is_positive = common_positive

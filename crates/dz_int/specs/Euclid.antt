@@ -1,17 +1,8 @@
--- Euclid's rule, and the parts of a product. No public clause cites this file.
-use Rattle.std.specs.Prelude.{◌≡◌, ◌<◌, ◌≤◌, ◌*◌, ◌/◌, ◌⊎◌, ℕ, zero, suc, ◌%◌, ℤ, pos, ◌+ℤ◌, ◌*ℤ◌, unsigned_abs}
+-- The parts of a product and of a sum. No public clause cites this file.
+use Rattle.std.specs.Prelude.{◌≡◌, ◌<◌, ◌≤◌, ◌*◌, ◌/◌, ◌⊎◌, ℕ, ℤ, pos, ◌+ℤ◌, ◌*ℤ◌, unsigned_abs}
+use Rattle.dz_algebra.specs.Norm.{gcd}
 use Rattle.dz_int.specs.Numbers.{greatest}
 use Rattle.dz_int.specs.Fractions.{Fraction, SumFits}
-
--- the remainders of Euclid's rule, at most n of them
-abbrev pub gcd_within : ℕ → ℕ → ℕ → ℕ
-gcd_within zero a b = a
-gcd_within (suc n) a zero = a
-gcd_within (suc n) a (suc b) = gcd_within n (suc b) (a % suc b)
-
--- the greatest common divisor
-unfoldable pub gcd : ℕ → ℕ → ℕ
-gcd a b = gcd_within (suc b) a b
 
 -- x over y is n over d, reduced and in range
 pub record AreParts (n d x y : ℕ) : Type 0 where

@@ -3,13 +3,13 @@
 ghost use Rattle.std.specs.Prelude.{◌≡◌};
 ghost use Rattle.std.specs.Int.{IsGcd};
 ghost use Rattle.dz_int.specs.Numbers.{IsContent};
-ghost use Rattle.dz_int.specs.Euclid.{gcd};
+ghost use Rattle.dz_algebra.specs.Norm.{gcd};
 
 /// The greatest absolute value in range, `2^127 - 1`.
 pub(crate) const GREATEST: u128 = 170141183460469231731687303715884105727;
 
 /// The greatest common divisor of two numbers of 64 bits.
-#[tactic(auto, using(crate::proofs::Euclidean::gcd_zero, crate::proofs::Euclidean::gcd_step))]
+#[tactic(auto, using(dz_algebra::proofs::Divisors::gcd_zero, dz_algebra::proofs::Divisors::gcd_step))]
 fn short_divisor(a: u64, b: u64) -> u64
     ensures { result ≡ gcd a b }
 {
@@ -24,7 +24,7 @@ fn short_divisor(a: u64, b: u64) -> u64
 }
 
 /// The greatest common divisor, in 64 bits as soon as both numbers fit.
-#[tactic(auto, using(crate::proofs::Euclidean::gcd_zero, crate::proofs::Euclidean::gcd_step))]
+#[tactic(auto, using(dz_algebra::proofs::Divisors::gcd_zero, dz_algebra::proofs::Divisors::gcd_step))]
 pub(crate) fn divisor(a: u128, b: u128) -> u128
     ensures { result ≡ gcd a b }
 {

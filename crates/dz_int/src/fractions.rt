@@ -4,7 +4,8 @@ ghost use Rattle.std.specs.Prelude.{◌≡◌, ◌<◌, ◌≤◌, ◌+◌, ◌*
 ghost use Rattle.std.specs.Prelude.{unsigned_abs, MatchOption};
 ghost use Rattle.dz_int.specs.Numbers.{greatest, signed};
 ghost use Rattle.dz_int.specs.Fractions.{SumPasses};
-ghost use Rattle.dz_int.specs.Euclid.{gcd, IsCrossReduced, AreParts, HasNoParts, AreSumParts};
+ghost use Rattle.dz_algebra.specs.Norm.{gcd};
+ghost use Rattle.dz_int.specs.Euclid.{IsCrossReduced, AreParts, HasNoParts, AreSumParts};
 
 use crate::divisors::{GREATEST, divisor};
 use crate::majorants::Majorant;
@@ -127,7 +128,7 @@ impl Frac {
     ghost use Rattle.std.specs.Prelude.{◌≡◌, ◌≢◌, ◌<◌, ◌≤◌, ◌<ℤ◌, pos, neg_ℤ, unsigned_abs};
     ghost use Rattle.dz_int.specs.Numbers.{greatest, signed};
     ghost use Rattle.dz_int.specs.Fractions.{IsFraction, HasValue, IsProduct, IsSum, inverse_of};
-    ghost use Rattle.dz_int.specs.Euclid.{gcd};
+    ghost use Rattle.dz_algebra.specs.Norm.{gcd};
 
     /// The reduced fraction with these absolute value of the numerator, denominator and sign.
     fn from_parts(absolute: u128, denominator: u128, negative: bool) -> Frac

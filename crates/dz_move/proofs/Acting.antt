@@ -5,13 +5,13 @@ use Rattle.dz_algebra.specs.Polynomial.{Polynomial}
 use Rattle.dz_algebra.specs.Size.{wide, large}
 use Rattle.dz_rank.specs.declared.symbols.Symbol.{Symbol}
 use Rattle.dz_poly.specs.Books.{BookValue, IsKept, polynomial}
-use Rattle.dz_terms.specs.Ranked.{symbols_under}
+use Rattle.dz_monomials.specs.Ranked.{symbols_under}
 use Rattle.dz_diff.specs.Operations.{Setting, setting_of}
-use Rattle.dz_diff.specs.Outcome.{◌>>=◌, given, told_as}
+use Rattle.dz_algebra.specs.Outcome.{◌>>=◌, given, told_as}
 use Rattle.dz_diff.specs.State.{State, at_place, put_equation, put_inequation}
 use Rattle.dz_diff.specs.States.{MeanAll, StandsIn, StateValue, polynomials, state_in}
 use Rattle.dz_diff.specs.Tests.{Polynomials}
-use Rattle.dz_diff.proofs.Answers.{given_then}
+use Rattle.dz_algebra.proofs.Outcomes.{given_then}
 use Rattle.dz_diff.proofs.KeptStates.{kept_polynomials, kept_state}
 use Rattle.dz_step.specs.Replays.{IsReplayFault, IsRunEnd}
 use Rattle.dz_step.specs.Run.{Ran, run, run_from}
@@ -121,7 +121,7 @@ unfolding weeded
 weeded_is g s i steps = given_then_both (at_place i s.inequations) (0, rule rules.Place) (λ f. told_as run_fault (run g s (Inequation i) f steps)) (λ r. moved g s (length steps) (with_inequations s (put_inequation g.symbols i r.end s.inequations)) (1 + r.count))
 
 -- what follows a run whose end is known
-after_run : {B : Type 0} (x : RunEnd) (q : Result Ran (ℕ × Fault)) (next : Ran → Result B (ℕ × Fault)) (h : IsRunEnd x q) → (q >>= next) ≡ next (record { end = (x.end).terms.items; count = h.count })
+after_run : {B : Type 0} (x : RunEnd) (q : Result Ran (ℕ × Fault)) (next : Ran → Result B (ℕ × Fault)) (h : IsRunEnd x q) → (q >>= next) ≡ next (record { end = (x.end).terms; count = h.count })
 after_run x q next h = ap (λ q. q >>= next) h.is
 
 module _ (old new : BookValue) (keeps : IsKept old new) (s : StateValue) (stands : StandsIn old s) (i : ℕ) (steps : List Step) (ran : RunEnd) (es hs : List ℕ) (splits k : ℕ) (same_splits : splits ≡ s.splits) (length_is : k ≡ length steps) where
@@ -138,20 +138,20 @@ module _ (old new : BookValue) (keeps : IsKept old new) (s : StateValue) (stands
 
   -- a reduce is this move
   pub reduced_moves : (h : IsRunEnd ran (placed_run g (state_in old s) (Equation i) i (polynomials old s.equations) steps))
-      → MeanAll new es (put_at (symbols_under old.ranking) Equations i (ran.end).terms.items (polynomials old s.equations)) → hs ≡ s.inequations
+      → MeanAll new es (put_at (symbols_under old.ranking) Equations i (ran.end).terms (polynomials old s.equations)) → hs ≡ s.inequations
       → moved (setting_of new.ranking) (state_in new s) k (state_in new after) (1 + h.count) ≡ reduced g (state_in old s) i steps
   reduced_moves h equations inequations =
-      moves (with_equations (state_in old s) (put_equation (symbols_under old.ranking) i (ran.end).terms.items (polynomials old s.equations))) h.count
+      moves (with_equations (state_in old s) (put_equation (symbols_under old.ranking) i (ran.end).terms (polynomials old s.equations))) h.count
       (ap₂ (λ (a b : Polynomials). record { equations = a; inequations = b; splits = splits }) equations.are (ap (polynomials new) inequations ∙ kept_polynomials old new keeps s.inequations stands.inequations_live)
-      ∙ ap (λ n. record { equations = put_equation (symbols_under old.ranking) i (ran.end).terms.items (polynomials old s.equations); inequations = polynomials old s.inequations; splits = n }) same_splits)
+      ∙ ap (λ n. record { equations = put_equation (symbols_under old.ranking) i (ran.end).terms (polynomials old s.equations); inequations = polynomials old s.inequations; splits = n }) same_splits)
       ∙ sym (reduced_is g (state_in old s) i steps ∙ after_run ran (placed_run g (state_in old s) (Equation i) i (polynomials old s.equations) steps) (λ r. moved g (state_in old s) (length steps) (with_equations (state_in old s) (put_equation (symbols_under old.ranking) i r.end (polynomials old s.equations))) (1 + r.count)) h)
 
   -- a weed is this move
   pub weeded_moves : (h : IsRunEnd ran (placed_run g (state_in old s) (Inequation i) i (polynomials old s.inequations) steps))
-      → MeanAll new hs (put_at (symbols_under old.ranking) Inequations i (ran.end).terms.items (polynomials old s.inequations)) → es ≡ s.equations
+      → MeanAll new hs (put_at (symbols_under old.ranking) Inequations i (ran.end).terms (polynomials old s.inequations)) → es ≡ s.equations
       → moved (setting_of new.ranking) (state_in new s) k (state_in new after) (1 + h.count) ≡ weeded g (state_in old s) i steps
   weeded_moves h inequations equations =
-      moves (with_inequations (state_in old s) (put_inequation (symbols_under old.ranking) i (ran.end).terms.items (polynomials old s.inequations))) h.count
+      moves (with_inequations (state_in old s) (put_inequation (symbols_under old.ranking) i (ran.end).terms (polynomials old s.inequations))) h.count
       (ap₂ (λ (a b : Polynomials). record { equations = a; inequations = b; splits = splits }) (ap (polynomials new) equations ∙ kept_polynomials old new keeps s.equations stands.equations_live) inequations.are
-      ∙ ap (λ n. record { equations = polynomials old s.equations; inequations = put_inequation (symbols_under old.ranking) i (ran.end).terms.items (polynomials old s.inequations); splits = n }) same_splits)
+      ∙ ap (λ n. record { equations = polynomials old s.equations; inequations = put_inequation (symbols_under old.ranking) i (ran.end).terms (polynomials old s.inequations); splits = n }) same_splits)
       ∙ sym (weeded_is g (state_in old s) i steps ∙ after_run ran (placed_run g (state_in old s) (Inequation i) i (polynomials old s.inequations) steps) (λ r. moved g (state_in old s) (length steps) (with_inequations (state_in old s) (put_inequation (symbols_under old.ranking) i r.end (polynomials old s.inequations))) (1 + r.count)) h)

@@ -18,29 +18,29 @@ use Rattle.dz_algebra.proofs.Inside.{in-append, in_derivative, in_negated}
 use Rattle.dz_rank.specs.Rankings.{RankingValue, ranking_cmp}
 use Rattle.dz_rank.specs.Symbols.{BelongsTo, total_order}
 use Rattle.dz_rank.specs.declared.symbols.Symbol.{Symbol}
-use Rattle.dz_terms.specs.Degrees.{degrees}
-use Rattle.dz_terms.specs.Entries.{IsEntry, IsKeepable}
-use Rattle.dz_terms.specs.Ranked.{symbols_under}
-use Rattle.dz_terms.proofs.Below.{occurs}
-use Rattle.dz_terms.proofs.Divisibility.{norm_entry}
-use Rattle.dz_terms.proofs.OneTerm.{power_entry}
-use Rattle.dz_terms.proofs.Operations.{operation_keepable}
-use Rattle.dz_terms.proofs.PowerCoefficients.{part_is_entry}
-use Rattle.dz_terms.proofs.SymbolLaws.{ranking_order}
-use Rattle.dz_diff.specs.Lists.{AllOf}
+use Rattle.dz_monomials.specs.Degrees.{degrees}
+use Rattle.dz_monomials.specs.Keeping.{IsTabled, IsKeepable}
+use Rattle.dz_monomials.specs.Ranked.{symbols_under}
+use Rattle.dz_monomials.proofs.Below.{occurs}
+use Rattle.dz_monomials.proofs.Divisibility.{norm_entry}
+use Rattle.dz_monomials.proofs.OneTerm.{power_entry}
+use Rattle.dz_monomials.proofs.Operations.{operation_keepable}
+use Rattle.dz_monomials.proofs.PowerCoefficients.{part_is_entry}
+use Rattle.dz_monomials.proofs.SymbolLaws.{ranking_order}
+use Rattle.dz_monomials.specs.Lists.{AllOf}
 use Rattle.dz_diff.specs.Operations.{setting_of}
 use Rattle.dz_diff.specs.Over.{IsOver}
 use Rattle.dz_move.specs.Root.{System, root_of}
 use Rattle.dz_diff.specs.State.{State}
 use Rattle.dz_diff.specs.Tests.{Polynomials}
 use Rattle.dz_move.proofs.RootStates.{or_none}
-use Rattle.dz_step.specs.Division.{divided_by, divisor_power, is_divided, quotient_by}
+use Rattle.dz_monomials.specs.PowerDivision.{divided_by, divisor_power, is_divided, quotient_by}
 use Rattle.dz_step.specs.declared.Role.{Role}
 use Rattle.dz_step.specs.declared.Step.{Step}
 use Rattle.dz_step.specs.declared.Which.{Which}
 use Rattle.dz_step.specs.declared.Which.TheVariants.{Initial, Separant}
 use Rattle.dz_step.specs.Step.{multiplier_answer, step_in}
-use Rattle.dz_step.proofs.PowerQuotients.{quotient_is_entry, quotient_terms}
+use Rattle.dz_monomials.proofs.QuotientsByPowers.{quotient_is_entry, quotient_terms}
 use Rattle.dz_step.proofs.TakenSteps.{taken_step}
 use Rattle.dz_pair.specs.Pair.{delta_answer}
 use Rattle.dz_pair.proofs.DeltaParts.{delta_parts}
@@ -62,7 +62,7 @@ module _ (r : RankingValue) (few : r.signature.independents ≤ 4) where
   keepables_over (p ∷ ps) h = (keepable_over p h.0, keepables_over ps h.1)
 
   -- with the table of its degrees
-  as_entry : (p : Polynomial Symbol) → IsKeepable r p → IsEntry r p (degrees (ranking_cmp r) p)
+  as_entry : (p : Polynomial Symbol) → IsKeepable r p → IsTabled r p (degrees (ranking_cmp r) p)
   as_entry p h = record { keepable = h; degrees_are = refl }
 
   -- a norm

@@ -7,14 +7,14 @@ use Rattle.dz_algebra.specs.Polynomial.{Polynomial, symbol_polynomial}
 use Rattle.dz_rank.specs.Rankings.{RankingValue, ranking_cmp}
 use Rattle.dz_rank.specs.Symbols.{is_derivative}
 use Rattle.dz_rank.specs.declared.symbols.Symbol.{Symbol}
-use Rattle.dz_terms.specs.Ranked.{symbols_under}
-use Rattle.dz_diff.specs.Lists.{AllOf}
+use Rattle.dz_monomials.specs.Ranked.{symbols_under}
+use Rattle.dz_monomials.specs.Lists.{AllOf}
 use Rattle.dz_diff.specs.Operations.{setting_of}
-use Rattle.dz_diff.specs.Outcome.{numbered, told_as}
+use Rattle.dz_algebra.specs.Outcome.{numbered, told_as}
 use Rattle.dz_move.specs.Root.{System, kept_norms, root_of}
 use Rattle.dz_diff.specs.State.{State, at_place, limit_passed, put_equation, put_inequation, same_state, without_place}
 use Rattle.dz_diff.specs.Tests.{Polynomials, is_member, is_unit, is_zero, same}
-use Rattle.dz_diff.proofs.Answers.{bind_ok, both, given_then, told_ok, then_ok, ok_same}
+use Rattle.dz_algebra.proofs.Outcomes.{bind_ok, both, given_then, told_ok, then_ok, ok_same}
 use Rattle.dz_diff.proofs.Places.{all-append, put_all, taken}
 use Rattle.dz_step.specs.declared.Role.{Role}
 use Rattle.dz_step.specs.declared.Role.TheVariants.{Free, Equation, Inequation}
@@ -24,7 +24,7 @@ use Rattle.dz_step.specs.FullRun.{admits}
 use Rattle.dz_step.specs.Run.{Ran, run_from, run}
 use Rattle.dz_step.specs.Step.{multiplier_answer, step_in}
 use Rattle.dz_pair.specs.Pair.{delta_answer, is_pair}
-use Rattle.dz_step.specs.Division.{is_divided, quotient_by}
+use Rattle.dz_monomials.specs.PowerDivision.{is_divided, quotient_by}
 use Rattle.dz_move.specs.Fault.{refusal, run_fault}
 use Rattle.dz_move.specs.Moves.{Action, Done, reduce, weed, add, divide, split, factor, divided_at, factored, forked, grown, perform, reduced, settled, split_at, weeded, with_equations, with_inequations, within}
 

@@ -5,10 +5,10 @@ use Rattle.dz_algebra.specs.Order.{IsOrder}
 use Rattle.dz_algebra.specs.Polynomial.{Polynomial}
 use Rattle.dz_algebra.specs.Symbols.{Symbols}
 use Rattle.dz_rank.specs.declared.symbols.Symbol.{Symbol}
-use Rattle.dz_diff.specs.Lists.{AllOf}
+use Rattle.dz_monomials.specs.Lists.{AllOf}
 use Rattle.dz_move.specs.Root.{kept_norms}
 use Rattle.dz_diff.specs.Tests.{Polynomials, is_member}
-use Rattle.dz_diff.proofs.Answers.{either}
+use Rattle.dz_algebra.proofs.Outcomes.{either}
 use Rattle.dz_diff.proofs.Places.{all-append, all_parts}
 use Rattle.dz_diff.proofs.SameTests.{member_is}
 

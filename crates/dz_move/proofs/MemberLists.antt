@@ -8,7 +8,7 @@ use Rattle.dz_algebra.specs.Symbols.{Symbols}
 use Rattle.dz_rank.specs.declared.symbols.Symbol.{Symbol}
 use Rattle.dz_poly.specs.Books.{BookValue, IsKept, Lives, Means, polynomial}
 use Rattle.dz_poly.proofs.Books.{means_lives, means_polynomial}
-use Rattle.dz_terms.specs.Ranked.{symbols_under}
+use Rattle.dz_monomials.specs.Ranked.{symbols_under}
 use Rattle.dz_diff.specs.State.{replaced, without_place}
 use Rattle.dz_diff.specs.States.{LiveAll, MeanAll, polynomials}
 use Rattle.dz_diff.specs.Tests.{Polynomials, is_member}

@@ -6,7 +6,7 @@ use Rattle.dz_algebra.specs.Polynomial.{Polynomial}
 use Rattle.dz_algebra.proofs.Leaders.{no_leader_ground}
 use Rattle.dz_rank.specs.declared.symbols.Symbol.{Symbol}
 use Rattle.dz_rank.specs.Rankings.{RankingValue}
-use Rattle.dz_terms.specs.Ranked.{symbols_under}
+use Rattle.dz_monomials.specs.Ranked.{symbols_under}
 use Rattle.dz_diff.specs.State.{State, without_place}
 use Rattle.dz_diff.specs.Tests.{is_member}
 use Rattle.dz_diff.proofs.Leading.{led_not_ground}

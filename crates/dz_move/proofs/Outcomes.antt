@@ -10,11 +10,11 @@ use Rattle.dz_algebra.specs.Size.{Refusal, wide, large}
 use Rattle.dz_rank.specs.declared.symbols.Symbol.{Symbol}
 use Rattle.dz_poly.specs.Books.{BookValue, IsKept, Lives, Means, polynomial}
 use Rattle.dz_poly.proofs.Books.{means_lives, means_polynomial}
-use Rattle.dz_terms.specs.Stops.{IsStop}
-use Rattle.dz_terms.specs.declared.PolyStop.{PolyStop}
-use Rattle.dz_terms.specs.declared.PolyStop.TheVariants as stops
+use Rattle.dz_monomials.specs.Stops.{IsStop}
+use Rattle.dz_monomials.specs.declared.PolyStop.{PolyStop}
+use Rattle.dz_monomials.specs.declared.PolyStop.TheVariants as stops
 use Rattle.dz_diff.specs.Operations.{Setting}
-use Rattle.dz_diff.specs.Outcome.{◌>>=◌, given, needs, numbered, told_as}
+use Rattle.dz_algebra.specs.Outcome.{◌>>=◌, given, needs, numbered, told_as}
 use Rattle.dz_diff.specs.State.{State, at_place, put_equation}
 use Rattle.dz_diff.specs.States.{LiveAll, MeanAll, polynomials, state_in}
 use Rattle.dz_diff.specs.Tests.{Polynomials, is_member, is_zero, same}
@@ -22,7 +22,7 @@ use Rattle.dz_diff.proofs.KeptStates.{kept_polynomials, live_on}
 use Rattle.dz_step.specs.declared.Role.TheVariants.{Free}
 use Rattle.dz_step.specs.declared.Step.{Step}
 use Rattle.dz_step.specs.declared.Which.{Which}
-use Rattle.dz_step.specs.Division.{is_divided, quotient_by}
+use Rattle.dz_monomials.specs.PowerDivision.{is_divided, quotient_by}
 use Rattle.dz_step.specs.FullRun.{admits}
 use Rattle.dz_step.specs.Run.{Ran, run}
 use Rattle.dz_step.specs.Step.{multiplier_answer}
@@ -41,9 +41,9 @@ use Rattle.dz_algebra.specs.Parts.{degree}
 use Rattle.dz_algebra.specs.Symbols.{Symbols}
 use Rattle.dz_rank.specs.Rankings.{RankingValue, ranking_cmp}
 use Rattle.dz_rank.specs.Symbols.{BelongsTo, total_order}
-use Rattle.dz_terms.specs.Entries.{IsEntry}
-use Rattle.dz_terms.proofs.EntryFacts.{too_high}
-use Rattle.dz_step.specs.Division.{least_exponent}
+use Rattle.dz_monomials.specs.Keeping.{IsTabled}
+use Rattle.dz_monomials.proofs.EntryFacts.{too_high}
+use Rattle.dz_monomials.specs.PowerDivision.{least_exponent}
 use Rattle.std.proofs.lemmas.Bool.{ltb-true}
 use Rattle.dz_move.proofs.OverStates.{divisor_belongs, least_most}
 use Rattle.dz_move.proofs.Acting.{bind_stopped, place_inside}
@@ -312,7 +312,7 @@ module _ (g : Setting) (s : State) (i : ℕ) (which : Which) where
 
 -- ---- factoring
 -- a symbol that divides a polynomial of a book may stand in the book
-module _ (r : RankingValue) (few : r.signature.independents ≤ 4) (p : Polynomial Symbol) (table : Monomial Symbol) (entry : IsEntry r p table) (v : Symbol) (divides : is_divided (ranking_cmp r) v p ≡ true) where
+module _ (r : RankingValue) (few : r.signature.independents ≤ 4) (p : Polynomial Symbol) (table : Monomial Symbol) (entry : IsTabled r p table) (v : Symbol) (divides : is_divided (ranking_cmp r) v p ≡ true) where
   pub divisor_belongs_to : BelongsTo r.signature v
   divisor_belongs_to = divisor_belongs r few v p divides (entry.keepable).belongs
 

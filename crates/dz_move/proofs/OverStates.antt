@@ -8,9 +8,9 @@ use Rattle.dz_algebra.proofs.Inside.{in_collect, in_with_power, in_without, occu
 use Rattle.dz_rank.specs.Rankings.{RankingValue, ranking_cmp}
 use Rattle.dz_rank.specs.Symbols.{BelongsTo}
 use Rattle.dz_rank.specs.declared.symbols.Symbol.{Symbol}
-use Rattle.dz_terms.specs.Ranked.{symbols_under}
-use Rattle.dz_terms.proofs.SymbolLaws.{ranking_order}
-use Rattle.dz_diff.specs.Lists.{AllOf}
+use Rattle.dz_monomials.specs.Ranked.{symbols_under}
+use Rattle.dz_monomials.proofs.SymbolLaws.{ranking_order}
+use Rattle.dz_monomials.specs.Lists.{AllOf}
 use Rattle.dz_diff.specs.Operations.{setting_of}
 use Rattle.dz_diff.specs.Over.{IsOver, AreOver}
 use Rattle.dz_move.specs.Root.{System, root_of}
@@ -19,7 +19,7 @@ use Rattle.dz_diff.proofs.Overs.{good_over}
 use Rattle.dz_step.specs.declared.Which.{Which}
 use Rattle.dz_step.specs.Step.{multiplier_answer}
 use Rattle.dz_step.proofs.TakenSteps.{good_multiplier}
-use Rattle.dz_step.specs.Division.{divided_by, divisor_power, is_divided, least_exponent, quotient_by, with_exponent}
+use Rattle.dz_monomials.specs.PowerDivision.{divided_by, divisor_power, is_divided, least_exponent, quotient_by, with_exponent}
 use Rattle.dz_move.specs.Moves.{Action, Done, perform}
 use Rattle.dz_move.proofs.Quotients.{good_quotient}
 use Rattle.dz_move.proofs.KeptMembers.{AreKept, HaveAll, all_give, perform_kept, root_kept}

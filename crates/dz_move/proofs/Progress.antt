@@ -3,18 +3,18 @@ use Rattle.std.proofs.Common.{◌≡◌, ℕ, ◌+◌, ◌≤◌, nat_lt, not, �
 use Rattle.dz_algebra.specs.Norm.{norm}
 use Rattle.dz_algebra.specs.Parts.{is_ground, leader}
 use Rattle.dz_algebra.specs.Polynomial.{symbol_polynomial}
-use Rattle.dz_diff.specs.Outcome.{numbered, told_as}
+use Rattle.dz_algebra.specs.Outcome.{numbered, told_as}
 use Rattle.dz_diff.specs.Tests.{is_zero, is_member, same}
 use Rattle.dz_diff.specs.Operations.{Setting}
 use Rattle.dz_diff.specs.State.{State, at_place, put_equation, limit_passed, same_state}
-use Rattle.dz_diff.proofs.Answers.{bind_ok, then_ok, given_then, ok_same}
+use Rattle.dz_algebra.proofs.Outcomes.{bind_ok, then_ok, given_then, ok_same}
 use Rattle.dz_step.specs.declared.Role.TheVariants.{Free, Equation, Inequation}
 use Rattle.dz_step.specs.Step.{multiplier_answer}
 use Rattle.dz_step.specs.Run.{run}
 use Rattle.dz_step.specs.FullRun.{admits}
 use Rattle.dz_pair.specs.Pair.{is_pair, delta_answer}
 use Rattle.dz_move.specs.Fault.{refusal, run_fault}
-use Rattle.dz_step.specs.Division.{is_divided, quotient_by}
+use Rattle.dz_monomials.specs.PowerDivision.{is_divided, quotient_by}
 use Rattle.dz_move.specs.Moves.{Action, reduce, weed, add, divide, split, factor, is_fork, Done, within, settled, moved, with_equations, forked, reduced, weeded, grown, divided_at, split_at, factored, perform}
 
 -- so many states, and a weight

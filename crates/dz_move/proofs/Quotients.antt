@@ -7,9 +7,9 @@ use Rattle.dz_algebra.proofs.Inside.{in_with_power, in_without, occurs}
 use Rattle.dz_algebra.proofs.Monomials.{with_power_is}
 use Rattle.dz_rank.specs.Rankings.{RankingValue, ranking_cmp}
 use Rattle.dz_rank.specs.declared.symbols.Symbol.{Symbol}
-use Rattle.dz_terms.proofs.SymbolLaws.{ranking_order}
+use Rattle.dz_monomials.proofs.SymbolLaws.{ranking_order}
 use Rattle.dz_diff.proofs.Goodness.{Good, Goods, InRange, good_terms, good_collected}
-use Rattle.dz_step.specs.Division.{with_exponent, divided_by, quotient_by}
+use Rattle.dz_monomials.specs.PowerDivision.{with_exponent, divided_by, quotient_by}
 
 module _ (r : RankingValue) where
   goods_divided_by : (v : Symbol) (k : ℕ) (p : Polynomial Symbol) → Goods r p → Goods r (divided_by (ranking_cmp r) v k p)

@@ -2,10 +2,10 @@
 use Rattle.std.proofs.Common.{◌≡◌, ◌≤◌, ◌∙◌, inl, inr, ℕ, true, false, not, Bool, cond, List, length, refl, sym, ap, subst, Result, Ok, Err, Option, Some, None}
 use Rattle.dz_rank.specs.Rankings.{RankingValue}
 use Rattle.dz_poly.specs.Books.{BookValue, IsBook, IsKept}
-use Rattle.dz_terms.specs.Ranked.{symbols_under}
-use Rattle.dz_diff.specs.Lists.{AllOf}
+use Rattle.dz_monomials.specs.Ranked.{symbols_under}
+use Rattle.dz_monomials.specs.Lists.{AllOf}
 use Rattle.dz_diff.specs.Operations.{Setting, setting_of}
-use Rattle.dz_diff.specs.Outcome.{◌>>=◌, numbered}
+use Rattle.dz_algebra.specs.Outcome.{◌>>=◌, numbered}
 use Rattle.dz_diff.specs.State.{State, limit_passed}
 use Rattle.dz_diff.specs.States.{IsStateOf, StandsIn, StateValue, state_in}
 use Rattle.dz_move.specs.declared.drafts.Drafted.{Drafted}

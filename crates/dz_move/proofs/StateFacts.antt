@@ -13,27 +13,27 @@ use Rattle.dz_algebra.proofs.NormLaws.{norm_idempotent}
 use Rattle.dz_rank.specs.Rankings.{RankingValue, ranking_cmp}
 use Rattle.dz_rank.specs.Symbols.{is_derivative}
 use Rattle.dz_rank.specs.declared.symbols.Symbol.{Symbol}
-use Rattle.dz_terms.specs.Ranked.{symbols_under}
-use Rattle.dz_terms.proofs.SymbolLaws.{ranking_order}
-use Rattle.dz_diff.specs.Lists.{AllOf}
+use Rattle.dz_monomials.specs.Ranked.{symbols_under}
+use Rattle.dz_monomials.proofs.SymbolLaws.{ranking_order}
+use Rattle.dz_monomials.specs.Lists.{AllOf}
 use Rattle.dz_diff.specs.Operations.{setting_of}
-use Rattle.dz_diff.specs.Outcome.{numbered, told_as}
+use Rattle.dz_algebra.specs.Outcome.{numbered, told_as}
 use Rattle.dz_diff.specs.Over.{AreOver, IsOver}
 use Rattle.dz_diff.specs.Tests.{Polynomials, has_unit, has_zero, is_member, is_unit, is_zero, same}
 use Rattle.dz_diff.specs.State.{State, at_place, limit_passed, member_count, put_equation, put_inequation, replaced, same_state, some_passes, term_count, without_place}
 use Rattle.dz_diff.specs.States.{IsStateOf}
-use Rattle.dz_diff.proofs.Answers.{bind_ok, both, given_then, is_false, ok_same, then_ok, told_ok}
+use Rattle.dz_algebra.proofs.Outcomes.{bind_ok, both, given_then, is_false, ok_same, then_ok, told_ok}
 use Rattle.dz_diff.proofs.Overs.{good_over}
 use Rattle.dz_diff.proofs.Places.{put_all, taken}
 use Rattle.dz_move.proofs.RootStates.{AreKept, all_push, distinct_push, no_units, no_zeros, or_none, root_is_state, same_back}
 use Rattle.dz_step.specs.declared.Role.{Role}
 use Rattle.dz_step.specs.declared.Role.TheVariants.{Free, Equation, Inequation}
 use Rattle.dz_step.specs.declared.Step.{Step}
-use Rattle.dz_step.specs.Division.{divided_by, divisor_power, is_divided, quotient_by, with_exponent}
+use Rattle.dz_monomials.specs.PowerDivision.{divided_by, divisor_power, is_divided, quotient_by, with_exponent}
 use Rattle.dz_step.specs.FullRun.{admits}
 use Rattle.dz_step.specs.Run.{Ran, run, run_from}
 use Rattle.dz_step.specs.Step.{multiplier_answer, step_in}
-use Rattle.dz_step.proofs.PowerQuotients.{quotient_is}
+use Rattle.dz_monomials.proofs.QuotientsByPowers.{quotient_is}
 use Rattle.dz_step.proofs.TakenSteps.{good_difference_of, good_multiplier, taken_step}
 use Rattle.dz_pair.specs.Pair.{delta_answer, is_pair}
 use Rattle.dz_move.specs.Fault.{refusal, run_fault}

@@ -2,8 +2,8 @@
 use Rattle.std.specs.Prelude.{◌≡◌, ◌⊎◌, ℕ, ◌-◌, ◌^◌, min, List, [], ◌∷◌, Option, Some, None, Result, Ok, Err}
 use Rattle.dz_algebra.specs.Size.{wide, large}
 use Rattle.dz_poly.specs.Books.{BookValue}
-use Rattle.dz_terms.specs.declared.PolyStop.{PolyStop}
-use Rattle.dz_terms.specs.declared.PolyStop.TheVariants as stops
+use Rattle.dz_monomials.specs.declared.PolyStop.{PolyStop}
+use Rattle.dz_monomials.specs.declared.PolyStop.TheVariants as stops
 use Rattle.dz_diff.specs.State.{State}
 use Rattle.dz_diff.specs.States.{StateValue, StandsIn, state_in}
 use Rattle.dz_step.specs.declared.replaying.ReplayFault.{ReplayFault}
@@ -85,6 +85,11 @@ drafts_in book (drafts.Two d e) = draft_in book d ∷ draft_in book e ∷ []
 abbrev pub DraftsStand : BookValue → Drafts → Type 0
 DraftsStand book (drafts.One d) = StandsIn book (draft_value d)
 DraftsStand book (drafts.Two d e) = StandsIn book (draft_value d) × StandsIn book (draft_value e)
+
+-- they are those of states, and stand in the book
+pub record AreDrafts (book : BookValue) (x : Drafts) (states : List State) : Type 0 where
+  pub are : drafts_in book x ≡ states
+  pub stand : DraftsStand book x
 
 -- a weight, up to the greatest number of a usize
 abbrev pub IsWeight : ℕ → ℕ → Type 0

@@ -14,5 +14,5 @@ use Rattle.dz_move.specs.Parts.{IsPairRun, placed_pair_run, placed_run}
 abbrev pub IsKnownEnd : Setting → State → Action → ActionEnd → Type 0
 IsKnownEnd g s (reduce i steps) x = IsRunEnd x.run (placed_run g s (Equation i) i s.equations steps)
 IsKnownEnd g s (weed j steps) x = IsRunEnd x.run (placed_run g s (Inequation j) j s.inequations steps)
-IsKnownEnd g s (add i j steps) x = IsPairRun x (placed_pair_run g s i j steps) × (admits g s Free ((x.run).end).terms.items ≡ false)
+IsKnownEnd g s (add i j steps) x = IsPairRun x (placed_pair_run g s i j steps) × (admits g s Free ((x.run).end).terms ≡ false)
 IsKnownEnd g s action x = ⊥

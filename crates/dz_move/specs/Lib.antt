@@ -2,6 +2,7 @@ pub mod Root
 pub mod Systems
 pub mod Members
 pub mod Fault
+pub mod RuleNames
 pub mod Moves
 pub mod Lines
 pub mod TreeLines

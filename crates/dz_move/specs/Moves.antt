@@ -6,7 +6,7 @@ use Rattle.dz_algebra.specs.Norm.{norm}
 use Rattle.dz_algebra.specs.Parts.{is_ground, leader}
 use Rattle.dz_algebra.specs.Size.{large}
 use Rattle.dz_rank.specs.declared.symbols.Symbol.{Symbol}
-use Rattle.dz_diff.specs.Outcome.{◌>>=◌, needs, given, numbered, told_as}
+use Rattle.dz_algebra.specs.Outcome.{◌>>=◌, needs, given, numbered, told_as}
 use Rattle.dz_diff.specs.Tests.{Polynomials, is_zero, is_member, same}
 use Rattle.dz_diff.specs.Operations.{Setting}
 use Rattle.dz_diff.specs.State.{State, at_place, put_equation, put_inequation, limit_passed, same_state}
@@ -19,7 +19,7 @@ use Rattle.dz_step.specs.FullRun.{admits}
 use Rattle.dz_pair.specs.Pair.{is_pair, delta_answer}
 use Rattle.dz_move.specs.declared.Rule.TheVariants as rules
 use Rattle.dz_move.specs.Fault.{Fault, refusal, rule, run_fault}
-use Rattle.dz_step.specs.Division.{quotient_by, is_divided}
+use Rattle.dz_monomials.specs.PowerDivision.{quotient_by, is_divided}
 
 -- What a move or a fork names. Moves: reduce an equation, weed out an inequation, add the end of a run from a
 -- Delta-polynomial, divide an equation by a symbol. Forks: split on an initial or separant, factor a symbol out.

@@ -1,6 +1,6 @@
 -- The weight of a run from the Delta-polynomial of a critical pair, which may stop anywhere (this project).
 use Rattle.std.specs.Prelude.{ℕ, ◌+◌, nat_lt, ◌&&◌, length, Result, Ok}
-use Rattle.dz_diff.specs.Outcome.{◌>>=◌, needs, given, numbered, told_as}
+use Rattle.dz_algebra.specs.Outcome.{◌>>=◌, needs, given, numbered, told_as}
 use Rattle.dz_diff.specs.Operations.{Setting}
 use Rattle.dz_diff.specs.State.{State, at_place}
 use Rattle.dz_step.specs.declared.Role.TheVariants.{Free}

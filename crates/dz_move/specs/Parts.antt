@@ -4,7 +4,7 @@ use Rattle.dz_algebra.specs.Parts.{is_ground}
 use Rattle.dz_algebra.specs.Polynomial.{Polynomial, symbol_polynomial}
 use Rattle.dz_algebra.specs.Symbols.{Symbols}
 use Rattle.dz_rank.specs.declared.symbols.Symbol.{Symbol}
-use Rattle.dz_diff.specs.Outcome.{◌>>=◌, given, needs, numbered, told_as}
+use Rattle.dz_algebra.specs.Outcome.{◌>>=◌, given, needs, numbered, told_as}
 use Rattle.dz_diff.specs.Operations.{Setting}
 use Rattle.dz_diff.specs.State.{State, at_place, put_equation}
 use Rattle.dz_diff.specs.Tests.{Polynomials, is_member, is_zero, same}
@@ -48,7 +48,7 @@ placed_pair_run g s i j steps = do
 -- such a run, with its count up to the greatest number of a usize
 pub record IsPairRun (x : ActionEnd) (answer : Result DeltaRun (ℕ × Fault)) : Type 0 where
   pub count : ℕ
-  pub is : answer ≡ Ok (record { terms = x.terms; ran = record { end = ((x.run).end).terms.items; count = count } })
+  pub is : answer ≡ Ok (record { terms = x.terms; ran = record { end = ((x.run).end).terms; count = count } })
   pub counted : (x.run).count ≡ min count (2 ^ 64 - 1)
 
 -- the end of a run may be added: it is not zero, no equation, and admits no free step

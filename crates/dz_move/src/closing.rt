@@ -1,7 +1,7 @@
 //! Closed states.
 
 ghost use Rattle.std.specs.Prelude.{◌≡◌};
-ghost use Rattle.dz_terms.specs.Ranked.{symbols_under};
+ghost use Rattle.dz_monomials.specs.Ranked.{symbols_under};
 ghost use Rattle.dz_move.specs.Root.{is_closed};
 ghost use Rattle.dz_diff.specs.Tests.{has_unit, has_zero};
 ghost use Rattle.dz_diff.specs.States.{LiveAll, StandsIn, polynomials, state_in};

@@ -2,8 +2,8 @@
 
 ghost use Rattle.std.specs.Prelude.{◌≡◌, ◌≤◌, ◌<◌, ℕ, None, Ok, IfOk, IfErr, nat_lt};
 ghost use Rattle.dz_poly.specs.Books.{BookValue};
-ghost use Rattle.dz_terms.specs.Ranked.{symbols_under};
-ghost use Rattle.dz_diff.specs.Lists.{AllOf};
+ghost use Rattle.dz_monomials.specs.Ranked.{symbols_under};
+ghost use Rattle.dz_monomials.specs.Lists.{AllOf};
 ghost use Rattle.dz_diff.specs.State.{limit_passed, member_count, term_count};
 ghost use Rattle.dz_diff.specs.States.{IsStateOf, LiveAll, StandsIn, polynomials};
 ghost use Rattle.dz_move.specs.Actions.{IsActionStop, IsPerformed, IsWeight};

@@ -3,10 +3,10 @@
 ghost use Rattle.std.specs.Prelude.{◌≡◌, ◌≤◌, IfOk, IfErr, length};
 ghost use Rattle.dz_poly.specs.Books.{IsKept, Lives, polynomial};
 ghost use Rattle.dz_terms.specs.Entries.{IsEntry};
-ghost use Rattle.dz_terms.specs.Ranked.{symbols_under};
+ghost use Rattle.dz_monomials.specs.Ranked.{symbols_under};
 ghost use Rattle.dz_diff.specs.Operations.{setting_of};
 ghost use Rattle.dz_diff.specs.States.{StandsIn, state_in};
-ghost use Rattle.dz_move.specs.Actions.{DraftsStand, IsActionStop, IsDrafted, drafts_in};
+ghost use Rattle.dz_move.specs.Actions.{AreDrafts, IsActionStop, IsDrafted};
 ghost use Rattle.dz_move.specs.Moves.{factored, split_at};
 ghost use Rattle.dz_move.specs.Parts.{factor_states, is_new, may_be_factor};
 
@@ -18,17 +18,17 @@ use crate::roots::Members;
 use dz_diff::{State, is_among, leader_of};
 use dz_poly::{Book, Poly};
 use dz_rank::Symbol;
-use dz_step::{Which, divided_entry, member_at, multiplier};
-use dz_terms::{Entry, into_norm, power, same_entries};
+use dz_step::{Which, member_at, multiplier};
+use dz_terms::{Entry, divided_entry, into_norm, power, same_entries};
 use std::alloc::AllocError;
 
 /// Whether a norm may be split on: it is not ground, and neither equation nor inequation.
 #[tactic(auto, using(dz_diff::proofs::MemberTests::none_left_out))]
 fn is_new(book: &Book, state: &State, norm: &Entry) -> bool
     requires stands { StandsIn book.now state.now }
-    requires norm { IsEntry book.now.ranking norm.now.terms.items norm.now.degrees.items }
+    requires norm { IsEntry book.now.ranking norm.now }
     ensures { result ≡ is_new (symbols_under book.now.ranking) (state_in book.now state.now)
-        norm.now.terms.items }
+        norm.now.terms }
 {
     let Some(_) = leader_of(norm) else {
         return false;
@@ -115,13 +115,12 @@ fn factor_drafts(
     requires splits { state.now.splits ≤ 200 }
     requires counts { 1 ≤ place }
     requires inside { place ≤ length state.now.equations }
-    requires quotient { IsEntry book.old.ranking quotient.terms.items quotient.degrees.items }
-    requires symbol { IsEntry book.old.ranking symbol.terms.items symbol.degrees.items }
-    requires factor { IsEntry book.old.ranking factor.terms.items factor.degrees.items }
-    ensures drafts { IfOk result (λ x. drafts_in book.new x ≡ factor_states
+    requires quotient { IsEntry book.old.ranking quotient }
+    requires symbol { IsEntry book.old.ranking symbol }
+    requires factor { IsEntry book.old.ranking factor }
+    ensures drafts { IfOk result (λ x. AreDrafts book.new x (factor_states
         (symbols_under book.old.ranking) (state_in book.old state.now) place
-        quotient.terms.items symbol.terms.items factor.terms.items) }
-    ensures stand { IfOk result (λ x. DraftsStand book.new x) }
+        quotient.terms symbol.terms factor.terms)) }
     ensures kept { IsKept book.old book.new }
 {
     let first = put(book, Members::Equations, state.equations(), place, quotient)?;

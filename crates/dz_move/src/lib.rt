@@ -4,6 +4,9 @@
 //! an open end names. What these answer is defined in `specs/`, with a law in [`laws`].
 #![tactic(auto)]
 
+ghost use Rattle.std.specs.Prelude.{◌≡◌};
+ghost use Rattle.dz_move.specs.RuleNames.{rule_name};
+
 mod closing;
 mod drafts;
 mod fault;
@@ -67,4 +70,32 @@ pub enum Rule {
     Coherence,
     /// The reason of an open end holds.
     Reason,
+}
+
+impl Rule {
+    /// The name of the rule in the verdict on a document.
+    pub fn name(self) -> &'static [u8]
+        ensures { result.now ≡ rule_name self }
+    {
+        match self {
+            Rule::Place => b"place",
+            Rule::Step => b"step",
+            Rule::Large => b"large",
+            Rule::Wide => b"wide",
+            Rule::Same => b"same",
+            Rule::Weight => b"weight",
+            Rule::Pair => b"pair",
+            Rule::End => b"end",
+            Rule::Symbol => b"symbol",
+            Rule::Fork => b"fork",
+            Rule::Closed => b"closed",
+            Rule::Leader => b"leader",
+            Rule::Autoreduced => b"autoreduced",
+            Rule::Multiplier => b"multiplier",
+            Rule::Inequation => b"inequation",
+            Rule::Pairs => b"pairs",
+            Rule::Coherence => b"coherence",
+            Rule::Reason => b"reason",
+        }
+    }
 }

@@ -4,7 +4,7 @@ ghost use Rattle.std.specs.Prelude.{◌≡◌, ◌≤◌, ◌++◌, [], ◌∷�
 ghost use Rattle.dz_algebra.specs.Polynomial.{symbol_polynomial};
 ghost use Rattle.dz_poly.specs.Books.{IsKept};
 ghost use Rattle.dz_terms.specs.Entries.{IsEntry};
-ghost use Rattle.dz_terms.specs.Ranked.{symbols_under};
+ghost use Rattle.dz_monomials.specs.Ranked.{symbols_under};
 ghost use Rattle.dz_diff.specs.State.{replaced, without_place};
 ghost use Rattle.dz_diff.specs.States.{LiveAll, MeanAll, polynomials};
 ghost use Rattle.dz_diff.specs.Tests.{is_member};
@@ -56,11 +56,11 @@ pub(crate) fn put(
     norm: Entry,
 ) -> Result<Vec<Poly>, AllocError>
     requires live { LiveAll book.old polys.now }
-    requires norm { IsEntry book.old.ranking norm.terms.items norm.degrees.items }
+    requires norm { IsEntry book.old.ranking norm }
     requires counts { 1 ≤ place }
     requires inside { place ≤ length polys.now }
     ensures put { IfOk result (λ all. MeanAll book.new all.items
-        (put_at (symbols_under book.old.ranking) members place norm.terms.items
+        (put_at (symbols_under book.old.ranking) members place norm.terms
         (polynomials book.old polys.now))) }
     ensures kept { IsKept book.old book.new }
 {

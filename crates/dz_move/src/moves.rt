@@ -3,7 +3,7 @@
 ghost use Rattle.std.specs.Prelude.{◌≡◌, ◌≤◌, ◌+◌, ℕ, false, IfOk, IfErr, length};
 ghost use Rattle.dz_poly.specs.Books.{IsKept, Lives, polynomial};
 ghost use Rattle.dz_terms.specs.Entries.{IsEntry};
-ghost use Rattle.dz_terms.specs.Ranked.{symbols_under};
+ghost use Rattle.dz_monomials.specs.Ranked.{symbols_under};
 ghost use Rattle.dz_diff.specs.Operations.{setting_of};
 ghost use Rattle.dz_diff.specs.States.{LiveAll, StandsIn, polynomials, state_in};
 ghost use Rattle.dz_diff.specs.Tests.{same, same_all};
@@ -23,7 +23,8 @@ use crate::roots::Members;
 use dz_diff::{State, norm_entry};
 use dz_poly::{Book, Poly, same};
 use dz_rank::Symbol;
-use dz_step::{Role, RunEnd, StepList, admits, divided_entry, member_at, run_entry};
+use dz_step::{Role, RunEnd, StepList, admits, member_at, run_entry};
+use dz_terms::divided_entry;
 
 /// The run in a role on the member at a place of a list.
 fn placed_run(
@@ -39,7 +40,7 @@ fn placed_run(
     ensures ok { IfOk result (λ x. IsRunEnd x (placed_run (setting_of book.now.ranking)
         (state_in book.now state.now) role place (polynomials book.now polys.now) run.now)) }
     ensures entry { IfOk result (λ x.
-        IsEntry book.now.ranking x.end.terms.items x.end.degrees.items) }
+        IsEntry book.now.ranking x.end) }
     ensures counts { IfOk result (λ x. 1 ≤ place) }
     ensures inside { IfOk result (λ x. place ≤ length polys.now) }
     ensures refused { IfErr result (λ stop. IsActionStop stop (placed_run
@@ -150,7 +151,7 @@ pub(crate) fn reduced_to(
     requires ran { IsRunEnd ran (placed_run (setting_of book.old.ranking)
         (state_in book.old state.now) (Equation place) place
         (polynomials book.old state.now.equations) run.now) }
-    requires entry { IsEntry book.old.ranking ran.end.terms.items ran.end.degrees.items }
+    requires entry { IsEntry book.old.ranking ran.end }
     ensures ok { IfOk result (λ x. IsDrafted book.new x (reduced (setting_of book.old.ranking)
         (state_in book.old state.now) place run.now)) }
     ensures refused { IfErr result (λ stop. IsActionStop stop (reduced
@@ -205,7 +206,7 @@ pub(crate) fn weeded_to(
     requires ran { IsRunEnd ran (placed_run (setting_of book.old.ranking)
         (state_in book.old state.now) (Inequation place) place
         (polynomials book.old state.now.inequations) run.now) }
-    requires entry { IsEntry book.old.ranking ran.end.terms.items ran.end.degrees.items }
+    requires entry { IsEntry book.old.ranking ran.end }
     ensures ok { IfOk result (λ x. IsDrafted book.new x (weeded (setting_of book.old.ranking)
         (state_in book.old state.now) place run.now)) }
     ensures refused { IfErr result (λ stop. IsActionStop stop (weeded
@@ -259,8 +260,8 @@ pub(crate) fn grown_to(
     requires ran { IsPairRun ran (placed_pair_run (setting_of book.old.ranking)
         (state_in book.old state.now) first second run.now) }
     requires rests { admits (setting_of book.old.ranking) (state_in book.old state.now) Free
-        ran.run.end.terms.items ≡ false }
-    requires entry { IsEntry book.old.ranking ran.run.end.terms.items ran.run.end.degrees.items }
+        ran.run.end.terms ≡ false }
+    requires entry { IsEntry book.old.ranking ran.run.end }
     ensures ok { IfOk result (λ x. IsDrafted book.new x (grown (setting_of book.old.ranking)
         (state_in book.old state.now) first second run.now)) }
     ensures refused { IfErr result (λ stop. IsActionStop stop (grown

@@ -2,7 +2,7 @@
 
 ghost use Rattle.std.specs.Prelude.{◌≡◌, IfOk, IfErr, OnOk, OnErr};
 ghost use Rattle.dz_poly.specs.Books.{IsKept};
-ghost use Rattle.dz_terms.specs.Ranked.{symbols_under};
+ghost use Rattle.dz_monomials.specs.Ranked.{symbols_under};
 ghost use Rattle.dz_diff.specs.Operations.{setting_of};
 ghost use Rattle.dz_diff.specs.States.{IsStateOf, StandsIn, state_in};
 ghost use Rattle.dz_terms.specs.Entries.{IsEntry};
@@ -62,7 +62,7 @@ fn drafted_to(
     requires stands { StandsIn book.old state.now }
     requires end { IsKnownEnd (setting_of book.old.ranking) (state_in book.old state.now)
         (action_of next.now) end }
-    requires entry { IsEntry book.old.ranking end.run.end.terms.items end.run.end.degrees.items }
+    requires entry { IsEntry book.old.ranking end.run.end }
     ensures ok { IfOk result (λ x. IsDrafted book.new x (perform (setting_of book.old.ranking)
         (state_in book.old state.now) (action_of next.now))) }
     ensures refused { IfErr result (λ stop. IsActionStop stop (perform
@@ -92,7 +92,7 @@ fn performed_to(
     requires facts { IsStateOf (symbols_under book.old.ranking) (state_in book.old state.now) }
     requires end { IsKnownEnd (setting_of book.old.ranking) (state_in book.old state.now)
         (action_of next.now) end }
-    requires entry { IsEntry book.old.ranking end.run.end.terms.items end.run.end.degrees.items }
+    requires entry { IsEntry book.old.ranking end.run.end }
     ensures ok { IfOk result (λ x. IsPerformed book.new x (perform (setting_of book.old.ranking)
         (state_in book.old state.now) (action_of next.now))) }
     ensures refused { IfErr result (λ stop. IsActionStop stop (perform
@@ -119,7 +119,7 @@ pub fn perform_to(
     requires facts { IsStateOf (symbols_under book.old.ranking) (state_in book.old state.now) }
     requires end { IsKnownEnd (setting_of book.old.ranking) (state_in book.old state.now)
         (action_of next.now) end }
-    requires entry { IsEntry book.old.ranking end.run.end.terms.items end.run.end.degrees.items }
+    requires entry { IsEntry book.old.ranking end.run.end }
     ensures states { IfOk result (λ x. IsPerformed book.new x (perform
         (setting_of book.old.ranking) (state_in book.old state.now) (action_of next.now))) }
     ensures fault { IfErr result (λ fault. IsMoveFault fault (perform

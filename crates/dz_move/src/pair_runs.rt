@@ -3,7 +3,7 @@
 ghost use Rattle.std.specs.Prelude.{◌≡◌, false, true, IfOk, IfErr};
 ghost use Rattle.dz_poly.specs.Books.{Lives, polynomial};
 ghost use Rattle.dz_terms.specs.Entries.{IsEntry};
-ghost use Rattle.dz_terms.specs.Ranked.{symbols_under};
+ghost use Rattle.dz_monomials.specs.Ranked.{symbols_under};
 ghost use Rattle.dz_diff.specs.Operations.{setting_of};
 ghost use Rattle.dz_diff.specs.States.{StandsIn, state_in};
 ghost use Rattle.dz_pair.specs.Pair.{is_pair};
@@ -46,7 +46,7 @@ pub fn pair_run(
     ensures ok { IfOk result (λ x. IsPairRun x (delta_run (setting_of book.now.ranking)
         (state_in book.now state.now) (polynomial book.now p) (polynomial book.now q) run.now)) }
     ensures entry { IfOk result (λ x.
-        IsEntry book.now.ranking x.run.end.terms.items x.run.end.degrees.items) }
+        IsEntry book.now.ranking x.run.end) }
     ensures refused { IfErr result (λ stop. IsActionStop stop (delta_run
         (setting_of book.now.ranking) (state_in book.now state.now) (polynomial book.now p)
         (polynomial book.now q) run.now)) }
@@ -74,7 +74,7 @@ pub(crate) fn placed_pair_run(
     ensures ok { IfOk result (λ x. IsPairRun x (placed_pair_run (setting_of book.now.ranking)
         (state_in book.now state.now) first second run.now)) }
     ensures entry { IfOk result (λ x.
-        IsEntry book.now.ranking x.run.end.terms.items x.run.end.degrees.items) }
+        IsEntry book.now.ranking x.run.end) }
     ensures refused { IfErr result (λ stop. IsActionStop stop (placed_pair_run
         (setting_of book.now.ranking) (state_in book.now state.now) first second run.now)) }
 {
@@ -97,11 +97,11 @@ pub(crate) fn placed_pair_run(
 #[tactic(auto, using(dz_diff::proofs::MemberTests::none_left_out, dz_diff::proofs::MemberTests::zero_by_length))]
 pub(crate) fn may_be_added(book: &Book, state: &State, end: &Entry) -> bool
     requires stands { StandsIn book.now state.now }
-    requires end { IsEntry book.now.ranking end.now.terms.items end.now.degrees.items }
+    requires end { IsEntry book.now.ranking end.now }
     requires rests { admits (setting_of book.now.ranking) (state_in book.now state.now) Free
-        end.now.terms.items ≡ false }
+        end.now.terms ≡ false }
     ensures { result ≡ may_be_added (setting_of book.now.ranking) (state_in book.now state.now)
-        end.now.terms.items }
+        end.now.terms }
 {
     !end.is_zero() && !is_among(book, state.equations(), 0, end)
 }

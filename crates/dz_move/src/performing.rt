@@ -2,8 +2,8 @@
 
 ghost use Rattle.std.specs.Prelude.{◌≡◌, ◌≤◌, true, [], ◌∷◌, IfOk, IfErr, OnOk, OnErr};
 ghost use Rattle.dz_poly.specs.Books.{IsKept};
-ghost use Rattle.dz_terms.specs.Ranked.{symbols_under};
-ghost use Rattle.dz_diff.specs.Lists.{AllOf};
+ghost use Rattle.dz_monomials.specs.Ranked.{symbols_under};
+ghost use Rattle.dz_monomials.specs.Lists.{AllOf};
 ghost use Rattle.dz_diff.specs.Operations.{setting_of};
 ghost use Rattle.dz_diff.specs.States.{IsStateOf, StandsIn, state_in};
 ghost use Rattle.dz_move.specs.Actions.{GivesStates, IsActionStop, IsDrafted, IsPerformed};

@@ -4,7 +4,7 @@ ghost use Rattle.std.specs.Prelude.{◌≡◌, [], ◌∷◌, IfOk, OnOk, OnErr}
 ghost use Rattle.dz_poly.specs.Books.{IsKept, Lives, polynomial};
 ghost use Rattle.dz_rank.specs.Rankings.{RankingValue};
 ghost use Rattle.dz_terms.specs.Entries.{IsEntry};
-ghost use Rattle.dz_terms.specs.Ranked.{symbols_under};
+ghost use Rattle.dz_monomials.specs.Ranked.{symbols_under};
 ghost use Rattle.dz_move.specs.Root.{kept_norms, root_of};
 ghost use Rattle.dz_diff.specs.States.{IsStateOf, LiveAll, MeanAll, StandsIn, polynomials, state_in};
 ghost use Rattle.dz_move.specs.Members.{is_left_out};
@@ -26,8 +26,8 @@ pub(crate) enum Members {
 /// Whether a norm says nothing in this list: as an equation zero, as an inequation what is ground
 /// and not zero.
 pub(crate) fn is_left_out(members: Members, norm: &Entry) -> bool
-    ensures { (r : RankingValue) → IsEntry r norm.now.terms.items norm.now.degrees.items
-        → result ≡ is_left_out (symbols_under r) members norm.now.terms.items }
+    ensures { (r : RankingValue) → IsEntry r norm.now
+        → result ≡ is_left_out (symbols_under r) members norm.now.terms }
 {
     match members {
         Members::Equations => norm.is_zero(),

@@ -7,7 +7,7 @@ use Rattle.dz_rank.specs.declared.symbols.Operator.{Operator}
 use Rattle.dz_rank.specs.declared.symbols.Symbol.{Symbol}
 use Rattle.dz_rank.specs.declared.symbols.Symbol.TheVariants.{Derivative}
 use Rattle.dz_diff.specs.Operators.{divides, exponent_differences, quotient}
-use Rattle.dz_diff.proofs.Answers.{both}
+use Rattle.dz_algebra.proofs.Outcomes.{both}
 use Rattle.dz_pair.specs.Pair.{are_crossing}
 
 -- exponents divide themselves

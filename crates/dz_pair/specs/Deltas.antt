@@ -6,7 +6,7 @@ use Rattle.dz_algebra.specs.Size.{Refusal, difference_answer, product_answer}
 use Rattle.dz_algebra.specs.Symbols.{Symbols}
 use Rattle.dz_rank.specs.declared.symbols.Operator.{Operator}
 use Rattle.dz_rank.specs.declared.symbols.Symbol.{Symbol}
-use Rattle.dz_diff.specs.Outcome.{◌>>=◌}
+use Rattle.dz_algebra.specs.Outcome.{◌>>=◌}
 use Rattle.dz_diff.specs.Operations.{Setting, operator_answer}
 
 -- the norm of s * a - t * b

@@ -2,7 +2,7 @@
 
 ghost use Rattle.std.specs.Prelude.{◌≡◌, ◌<◌, ◌≤◌, ◌+◌, ◌++◌, map, drop, length, IfOk, OnOk};
 ghost use Rattle.dz_algebra.specs.Parts.{leader};
-ghost use Rattle.dz_terms.specs.Ranked.{symbols_under};
+ghost use Rattle.dz_monomials.specs.Ranked.{symbols_under};
 ghost use Rattle.dz_diff.specs.States.{StandsIn, state_in};
 ghost use Rattle.dz_pair.specs.Crossings.{crossings_from};
 ghost use Rattle.dz_pair.specs.Pair.{critical_pairs};

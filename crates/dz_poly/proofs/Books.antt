@@ -7,9 +7,9 @@ use Rattle.dz_rank.specs.declared.symbols.Symbol.{Symbol}
 use Rattle.dz_rank.specs.Rankings.{RankingValue}
 use Rattle.std.specs.Prelude.{All}
 use Rattle.std.proofs.lemmas.List.Elements.{All-map, All-weaker}
-use Rattle.dz_terms.specs.declared.entry.Entry.{Entry}
+use Rattle.dz_terms.specs.Entries.{EntryValue}
 use Rattle.dz_poly.specs.Books.{BookValue, IsKept, IsBook, Lives, Means, polynomial}
-use Rattle.dz_terms.specs.Entries.{IsKeepable}
+use Rattle.dz_monomials.specs.Keeping.{IsKeepable}
 use Rattle.dz_terms.specs.Entries.{IsEntry}
 
 slice_get-append : {X : Type 0} (xs ys : List X) (p : ℕ) → p < length xs → slice_get (xs ++ ys) p ≡ slice_get xs p
@@ -27,8 +27,8 @@ last_get f [] x = refl
 last_get f (y ∷ xs) x = last_get f xs x
 
 -- entries make a book
-pub book_of : (r : RankingValue) (es : List Entry) → All (λ e. IsEntry r e.terms.items e.degrees.items) es → IsBook (record { ranking = r; polynomials = map (λ e. e.terms.items) es })
-book_of r es h = record { each = All-map (IsKeepable r) (λ e. e.terms.items) es (All-weaker (λ e. IsEntry r e.terms.items e.degrees.items) (λ e. IsKeepable r e.terms.items) (λ e g. g.keepable) es h) }
+pub book_of : (r : RankingValue) (es : List EntryValue) → All (λ e. IsEntry r e) es → IsBook (record { ranking = r; polynomials = map (λ e. e.terms) es })
+book_of r es h = record { each = All-map (IsKeepable r) (λ e. e.terms) es (All-weaker (λ e. IsEntry r e) (λ e. IsKeepable r e.terms) (λ e g. g.keepable) es h) }
 
 -- what two calls in a row keep
 pub kept_trans : (a b c : BookValue) → IsKept a b → IsKept b c → IsKept a c

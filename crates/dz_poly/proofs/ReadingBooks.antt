@@ -7,17 +7,17 @@ use Rattle.dz_algebra.specs.Polynomial.{Polynomial}
 use Rattle.dz_rank.specs.declared.symbols.Symbol.{Symbol}
 use Rattle.dz_rank.specs.Rankings.{RankingValue}
 use Rattle.dz_poly.specs.Books.{symbols_of}
-use Rattle.dz_terms.specs.Entries.{IsEntry}
-use Rattle.dz_terms.proofs.Multiples.{keys_degrees}
-use Rattle.dz_terms.proofs.SymbolLaws.{ranking_order}
+use Rattle.dz_monomials.specs.Keeping.{IsTabled}
+use Rattle.dz_monomials.proofs.Multiples.{keys_degrees}
+use Rattle.dz_monomials.proofs.SymbolLaws.{ranking_order}
 
-symbols_stand : (r : RankingValue) (p : Polynomial Symbol) (table : Monomial Symbol) → IsEntry r p table → map (λ e. e.0) table ≡ symbols_of r p
+symbols_stand : (r : RankingValue) (p : Polynomial Symbol) (table : Monomial Symbol) → IsTabled r p table → map (λ e. e.0) table ≡ symbols_of r p
 symbols_stand r p table h = ap (map (λ e. e.0)) h.degrees_are ∙ keys_degrees (ranking_order r) p
 
-pub symbols_counted : (r : RankingValue) (p : Polynomial Symbol) (table : Monomial Symbol) → IsEntry r p table → length table ≡ length (symbols_of r p)
+pub symbols_counted : (r : RankingValue) (p : Polynomial Symbol) (table : Monomial Symbol) → IsTabled r p table → length table ≡ length (symbols_of r p)
 symbols_counted r p table h = sym (length-map table (λ e. e.0)) ∙ ap length (symbols_stand r p table h)
 
-pub symbol_stands : (r : RankingValue) (p : Polynomial Symbol) (table : Monomial Symbol) (j : ℕ) (d : Symbol × ℕ) → IsEntry r p table → j < length table → slice_get (symbols_of r p) j ≡ Some (get_or table j d).0
+pub symbol_stands : (r : RankingValue) (p : Polynomial Symbol) (table : Monomial Symbol) (j : ℕ) (d : Symbol × ℕ) → IsTabled r p table → j < length table → slice_get (symbols_of r p) j ≡ Some (get_or table j d).0
 symbol_stands r p table j d h l = ap (λ ss. slice_get ss j) (sym (symbols_stand r p table h)) ∙ at table j l
   where
     at : (table : Monomial Symbol) (j : ℕ) → j < length table → slice_get (map (λ e. e.0) table) j ≡ Some (get_or table j d).0

@@ -5,9 +5,9 @@ use Rattle.dz_algebra.specs.Polynomial.{Polynomial}
 use Rattle.dz_algebra.specs.Size.{Refusal, symbols}
 use Rattle.dz_rank.specs.declared.symbols.Symbol.{Symbol}
 use Rattle.dz_rank.specs.Rankings.{RankingValue, ranking_cmp}
-use Rattle.dz_terms.specs.Entries.{IsKeepable}
-use Rattle.dz_terms.specs.Stops.{IsStop}
-use Rattle.dz_terms.specs.declared.PolyStop.{PolyStop}
+use Rattle.dz_monomials.specs.Keeping.{IsKeepable}
+use Rattle.dz_monomials.specs.Stops.{IsStop}
+use Rattle.dz_monomials.specs.declared.PolyStop.{PolyStop}
 
 -- a ranking, and polynomials by the order in which they were made
 pub record BookValue : Type 0 where
@@ -55,3 +55,19 @@ abbrev pub Gives : BookValue → Result ℕ PolyStop → Result (Polynomial Symb
 Gives new (Ok p) (Ok q) = Means new p q
 Gives new (Ok p) (Err e) = ⊥
 Gives new (Err stop) answer = IsStop stop answer
+
+-- a call made a polynomial: it is what the definition answers, it is the one polynomial more, and this is its number
+pub record IsMade (old new : BookValue) (p : ℕ) (answer : Result (Polynomial Symbol) Refusal) : Type 0 where
+  pub value : Gives new (Ok p) answer
+  pub kept : IsKept old new
+  pub added : IsAdded old new p
+
+-- a call was refused: the book is as before, and the refusal is the definition's, or want of memory
+pub record IsRefused (old new : BookValue) (stop : PolyStop) (answer : Result (Polynomial Symbol) Refusal) : Type 0 where
+  pub refused : new ≡ old
+  pub why : IsStop stop answer
+
+-- what a call that makes a polynomial of a book does to the book, and what it answers
+abbrev pub Makes : BookValue → BookValue → Result ℕ PolyStop → Result (Polynomial Symbol) Refusal → Type 0
+Makes old new (Ok p) answer = IsMade old new p answer
+Makes old new (Err stop) answer = IsRefused old new stop answer

@@ -60,11 +60,11 @@ impl Model for Book {
 
     ghost view = { λ b. record {
       ranking = b.ranking;
-      polynomials = map (λ e. e.terms.items) b.entries.items;
+      polynomials = map (λ e. e.terms) b.entries.items;
     } };
 
     ghost invariant = { λ b.
-        All (λ e. IsEntry b.ranking e.terms.items e.degrees.items) b.entries.items };
+        All (λ e. IsEntry b.ranking e) b.entries.items };
 }
 
 impl Book {
@@ -127,17 +127,17 @@ impl Book {
     /// What the book keeps of a polynomial.
     pub fn entry(&self, p: Poly) -> &Entry
         requires { Lives self.now p }
-        ensures means { Means self.now p result.now.terms.items }
-        ensures value { result.now.terms.items ≡ polynomial self.now p }
-        ensures entry { IsEntry self.now.ranking result.now.terms.items result.now.degrees.items }
+        ensures means { Means self.now p result.now.terms }
+        ensures value { result.now.terms ≡ polynomial self.now p }
+        ensures entry { IsEntry self.now.ranking result.now }
     {
         &self.entries[p.index]
     }
 
     /// Puts a polynomial behind the others.
     pub fn keep(&mut self, entry: Entry) -> Result<Poly, AllocError>
-        requires { IsEntry self.old.ranking entry.terms.items entry.degrees.items }
-        ensures ok { IfOk result (λ p. Means self.new p entry.terms.items) }
+        requires { IsEntry self.old.ranking entry }
+        ensures ok { IfOk result (λ p. Means self.new p entry.terms) }
         ensures kept { OnOk result (IsKept self.old self.new) }
         ensures added { IfOk result (λ p. IsAdded self.old self.new p) }
         ensures refused { OnErr result (self.new ≡ self.old) }

@@ -9,15 +9,14 @@ ghost use Rattle.dz_rank.specs.Rankings.{ranking_cmp};
 
 use crate::book::{Book, Poly};
 use dz_rank::Symbol;
-use dz_terms::{exponent_of, same_terms};
+use dz_terms::same_entries;
 
-#[tactic(auto, using(dz_terms::proofs::EntryFacts::table_is_monomial, dz_terms::proofs::EntryFacts::degree_stands,))]
 /// The degree in a symbol, 0 where it does not occur.
 pub fn degree_in(book: &Book, a: Poly, s: Symbol) -> u16
     requires { Lives book.now a }
     ensures { result ≡ degree (ranking_cmp book.now.ranking) s (polynomial book.now a) }
 {
-    exponent_of(book.ranking(), book.entry(a).degrees.as_slice(), s)
+    book.entry(a).degree(book.ranking(), s)
 }
 
 /// The number of terms.
@@ -25,7 +24,7 @@ pub fn term_count(book: &Book, a: Poly) -> usize
     requires { Lives book.now a }
     ensures { result ≡ length (polynomial book.now a) }
 {
-    book.entry(a).terms.len()
+    book.entry(a).term_count()
 }
 
 /// The number of symbols that occur.
@@ -33,7 +32,7 @@ pub fn symbol_count(book: &Book, a: Poly) -> usize
     requires { Lives book.now a }
     ensures { result ≡ length (symbols_of book.now.ranking (polynomial book.now a)) }
 {
-    book.entry(a).degrees.len()
+    book.entry(a).symbol_degrees().len()
 }
 
 /// The symbol at a position.
@@ -42,7 +41,7 @@ pub fn symbol_at(book: &Book, a: Poly, j: usize) -> Symbol
     requires inside { j < length (symbols_of book.now.ranking (polynomial book.now a)) }
     ensures { slice_get (symbols_of book.now.ranking (polynomial book.now a)) j ≡ Some result }
 {
-    book.entry(a).degrees.as_slice()[j].0
+    book.entry(a).symbol_degrees()[j].0
 }
 
 /// The coefficient of the term at a position.
@@ -52,10 +51,9 @@ pub fn coefficient_at(book: &Book, a: Poly, k: usize) -> i128
     ensures value { result ≡ (term_at (polynomial book.now a) k).1 }
     ensures in_range { unsigned_abs result ≤ greatest }
 {
-    book.entry(a).terms[k].coefficient()
+    book.entry(a).coefficient(k)
 }
 
-#[tactic(auto, using(dz_terms::proofs::EntryFacts::term_is_monomial))]
 /// The exponent of a symbol in the term at a position, 0 where it does not occur.
 pub fn exponent_at(book: &Book, a: Poly, k: usize, s: Symbol) -> u16
     requires lives { Lives book.now a }
@@ -63,7 +61,7 @@ pub fn exponent_at(book: &Book, a: Poly, k: usize, s: Symbol) -> u16
     ensures { result ≡ exponent (ranking_cmp book.now.ranking) s
         (term_at (polynomial book.now a) k).0 }
 {
-    exponent_of(book.ranking(), book.entry(a).terms[k].powers(), s)
+    book.entry(a).exponent(book.ranking(), k, s)
 }
 
 /// The number of symbols in the term at a position.
@@ -72,7 +70,7 @@ pub fn power_count(book: &Book, a: Poly, k: usize) -> usize
     requires inside { k < length (polynomial book.now a) }
     ensures { result ≡ length (term_at (polynomial book.now a) k).0 }
 {
-    book.entry(a).terms[k].powers().len()
+    book.entry(a).power_count(k)
 }
 
 /// The symbol at a position in the term at a position, with its exponent.
@@ -82,7 +80,7 @@ pub fn power_at(book: &Book, a: Poly, k: usize, j: usize) -> (Symbol, u16)
     requires among { j < length (term_at (polynomial book.now a) k).0 }
     ensures { slice_get (term_at (polynomial book.now a) k).0 j ≡ Some result }
 {
-    book.entry(a).terms[k].powers()[j]
+    book.entry(a).power(k, j)
 }
 
 /// Whether two polynomials are equal.
@@ -91,9 +89,5 @@ pub fn same(book: &Book, a: Poly, b: Poly) -> bool
     requires second { Lives book.now b }
     ensures { IsTrue result ↔ (polynomial book.now a ≡ polynomial book.now b) }
 {
-    same_terms(
-        book.ranking(),
-        book.entry(a).terms.as_slice(),
-        book.entry(b).terms.as_slice(),
-    )
+    same_entries(book.ranking(), book.entry(a), book.entry(b))
 }

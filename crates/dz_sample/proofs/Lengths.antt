@@ -9,7 +9,7 @@ use Rattle.dz_algebra.specs.Monomial.{Monomial, monomial_cmp}
 use Rattle.dz_algebra.specs.Polynomial.{Contributions, Polynomial, add_term, collect, keep, negated, pairs, polynomial_difference, polynomial_product, symbol_polynomial}
 use Rattle.dz_algebra.specs.Whole.{whole_is_zero}
 use Rattle.dz_sample.specs.Sample.{first_equations, further_equation, further_equations, sample}
-use Rattle.dz_terms.specs.Terms.{constant_polynomial}
+use Rattle.dz_monomials.specs.Terms.{constant_polynomial}
 
 -- ---- contributions make no more terms than there are contributions
 module _ {S : Type 0} where

@@ -16,10 +16,10 @@ use Rattle.dz_rank.specs.declared.symbols.Symbol.{Symbol}
 use Rattle.dz_rank.specs.declared.symbols.Symbol.TheVariants.{Derivative}
 use Rattle.dz_sample.specs.Equations.{IsEquationOf, dependent_of, derivative_of, equation_polynomial}
 use Rattle.dz_sample.specs.declared.equations.SampleEquation.{SampleEquation}
-use Rattle.dz_terms.specs.Ranked.{symbols_under}
-use Rattle.dz_terms.specs.Terms.{constant_polynomial}
-use Rattle.dz_terms.specs.declared.PolyStop.{PolyStop}
-use Rattle.dz_terms.specs.declared.PolyStop.TheVariants.{Memory}
+use Rattle.dz_monomials.specs.Ranked.{symbols_under}
+use Rattle.dz_monomials.specs.Terms.{constant_polynomial}
+use Rattle.dz_monomials.specs.declared.PolyStop.{PolyStop}
+use Rattle.dz_monomials.specs.declared.PolyStop.TheVariants.{Memory}
 use Rattle.dz_sample.proofs.Fitting.{multiple_answer, rest_answer}
 
 -- ---- results

@@ -8,7 +8,7 @@ use Rattle.dz_rank.specs.declared.symbols.Symbol.{Symbol}
 use Rattle.dz_rank.specs.declared.symbols.Symbol.TheVariants.{Derivative}
 use Rattle.dz_rank.specs.Symbols.{BelongsTo, identity}
 use Rattle.dz_sample.specs.declared.equations.SampleEquation.{SampleEquation}
-use Rattle.dz_terms.specs.Terms.{constant_polynomial}
+use Rattle.dz_monomials.specs.Terms.{constant_polynomial}
 
 -- the derivative that an equation fixes
 abbrev pub derivative_of : SampleEquation → Symbol

@@ -3,7 +3,7 @@ ghost use Rattle.std.specs.Prelude.{◌≡◌, IfErr, IfOk};
 ghost use Rattle.dz_poly.specs.Books.{IsKept, Means};
 ghost use Rattle.dz_rank.specs.Rankings.{ranking_cmp};
 ghost use Rattle.dz_sample.specs.Equations.{IsEquationOf, equation_polynomial};
-ghost use Rattle.dz_terms.specs.declared.PolyStop.TheVariants.{Memory};
+ghost use Rattle.dz_monomials.specs.declared.PolyStop.TheVariants.{Memory};
 
 use crate::equations::SampleEquation;
 use dz_poly::{Book, Poly, PolyStop, constant, mul, sub, symbol_poly};

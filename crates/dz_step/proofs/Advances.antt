@@ -5,7 +5,7 @@ use Rattle.dz_algebra.specs.Polynomial.{Polynomial}
 use Rattle.dz_algebra.specs.Size.{wide, large}
 use Rattle.dz_rank.specs.Rankings.{RankingValue}
 use Rattle.dz_rank.specs.declared.symbols.Symbol.{Symbol}
-use Rattle.dz_terms.specs.declared.entry.Entry.{Entry}
+use Rattle.dz_terms.specs.Entries.{EntryValue}
 use Rattle.dz_diff.specs.Operations.{setting_of}
 use Rattle.dz_diff.specs.State.{State}
 use Rattle.dz_step.specs.declared.Role.{Role}
@@ -26,34 +26,34 @@ module _ (r : RankingValue) (s : State) (role : Role) (budget : ℕ) (f : Polyno
   pub cut_short : IsAt r s role budget f p → (run : List Step) → run ≡ p.run → IsPrefix run (steps_taken (full_run (setting_of r) s role budget f))
   cut_short at run e =
       subst (λ l. IsPrefix l (steps_taken (full_run (setting_of r) s role budget f))) (sym e)
-      (subst (λ c. IsPrefix p.run (steps_taken c)) (sym at.3) (so_far (setting_of r) s role budget (suc at.0) p.run p.rest.terms.items (budget - p.left) (omega arith) (omega (arith, at.1, at.2))))
+      (subst (λ c. IsPrefix p.run (steps_taken c)) (sym at.3) (so_far (setting_of r) s role budget (suc at.0) p.run p.rest.terms (budget - p.left) (omega arith) (omega (arith, at.1, at.2))))
 
   -- a turn that stops it
-  pub stops : IsAt r s role budget f p → (stop : AttemptStop) → IsTurn r s role p.rest.terms.items (Stopped stop) → IsAttemptOf (full_run (setting_of r) s role budget f) p.run stop
+  pub stops : IsAt r s role budget f p → (stop : AttemptStop) → IsTurn r s role p.rest.terms (Stopped stop) → IsAttemptOf (full_run (setting_of r) s role budget f) p.run stop
   stops at Memory t = cut_short at p.run refl
-  stops at (Wide step) t = at.3 ∙ refused_at (setting_of r) s role budget p.run p.rest.terms.items (budget - p.left) at.0 step (refused wide) t.0 t.1
-  stops at (Large limit step) t = at.3 ∙ refused_at (setting_of r) s role budget p.run p.rest.terms.items (budget - p.left) at.0 step (refused (large limit)) t.0 t.1
+  stops at (Wide step) t = at.3 ∙ refused_at (setting_of r) s role budget p.run p.rest.terms (budget - p.left) at.0 step (refused wide) t.0 t.1
+  stops at (Large limit step) t = at.3 ∙ refused_at (setting_of r) s role budget p.run p.rest.terms (budget - p.left) at.0 step (refused (large limit)) t.0 t.1
   stops at (Spent step) t = absurd t
 
   -- a step that passes what is left
-  pub spends : IsAt r s role budget f p → (step : Step) (x : Entry) → IsTurn r s role p.rest.terms.items (Taken step x) → p.left ≤ length x.terms.items → full_run (setting_of r) s role budget f ≡ passed (p.run ++ step ∷ [])
-  spends at step x t l = at.3 ∙ spent_at (setting_of r) s role budget p.run p.rest.terms.items (budget - p.left) at.0 step x.terms.items t.0 t.1 (omega (arith, l, at.2))
+  pub spends : IsAt r s role budget f p → (step : Step) (x : EntryValue) → IsTurn r s role p.rest.terms (Taken step x) → p.left ≤ length x.terms → full_run (setting_of r) s role budget f ≡ passed (p.run ++ step ∷ [])
+  spends at step x t l = at.3 ∙ spent_at (setting_of r) s role budget p.run p.rest.terms (budget - p.left) at.0 step x.terms t.0 t.1 (omega (arith, l, at.2))
 
   -- a turn that takes a step
-  pub moved : IsAt r s role budget f p → (step : Step) (x : Entry) (new : Progress) → IsTurn r s role p.rest.terms.items (Taken step x) → new.run ≡ p.run ++ step ∷ [] → new.rest ≡ x → new.left + 1 + length x.terms.items ≡ p.left
+  pub moved : IsAt r s role budget f p → (step : Step) (x : EntryValue) (new : Progress) → IsTurn r s role p.rest.terms (Taken step x) → new.run ≡ p.run ++ step ∷ [] → new.rest ≡ x → new.left + 1 + length x.terms ≡ p.left
       → IsAt r s role budget f new
   moved at step x new t e h m = by_rounds at.0 at.1 at.3
     where
-      by_rounds : (k : ℕ) → p.left ≤ k → full_run (setting_of r) s role budget f ≡ full_run_from (setting_of r) s role budget (suc k) p.run p.rest.terms.items (budget - p.left) → IsAt r s role budget f new
+      by_rounds : (k : ℕ) → p.left ≤ k → full_run (setting_of r) s role budget f ≡ full_run_from (setting_of r) s role budget (suc k) p.run p.rest.terms (budget - p.left) → IsAt r s role budget f new
       by_rounds zero l g = absurd (omega (arith, l, m))
       by_rounds (suc k) l g =
-          let low : budget - p.left + 1 + length x.terms.items ≤ budget = omega (arith, m, at.2) in
-          let count : budget - p.left + 1 + length x.terms.items ≡ budget - new.left = omega (arith, at.2, m) in
-          (k, omega (arith, l, m), omega (arith, at.2, m), g ∙ goes_on (setting_of r) s role budget p.run p.rest.terms.items (budget - p.left) (suc k) step x.terms.items t.0 t.1 low ∙ ap₂ (λ (l : List Step) (c : ℕ). full_run_from (setting_of r) s role budget (suc k) l x.terms.items c) (sym e) count ∙ ap (λ (y : Entry). full_run_from (setting_of r) s role budget (suc k) new.run y.terms.items (budget - new.left)) (sym h))
+          let low : budget - p.left + 1 + length x.terms ≤ budget = omega (arith, m, at.2) in
+          let count : budget - p.left + 1 + length x.terms ≡ budget - new.left = omega (arith, at.2, m) in
+          (k, omega (arith, l, m), omega (arith, at.2, m), g ∙ goes_on (setting_of r) s role budget p.run p.rest.terms (budget - p.left) (suc k) step x.terms t.0 t.1 low ∙ ap₂ (λ (l : List Step) (c : ℕ). full_run_from (setting_of r) s role budget (suc k) l x.terms c) (sym e) count ∙ ap (λ (y : EntryValue). full_run_from (setting_of r) s role budget (suc k) new.run y.terms (budget - new.left)) (sym h))
 
 -- ---- the beginning
 -- a full run begins with the norm, and with all of its budget
-pub begins : (r : RankingValue) (s : State) (role : Role) (budget : ℕ) (f : Polynomial Symbol) (x : Entry) (run : List Step) → x.terms.items ≡ norm f → run ≡ [] → IsAt r s role budget f (record { run = run; rest = x; left = budget })
+pub begins : (r : RankingValue) (s : State) (role : Role) (budget : ℕ) (f : Polynomial Symbol) (x : EntryValue) (run : List Step) → x.terms ≡ norm f → run ≡ [] → IsAt r s role budget f (record { run = run; rest = x; left = budget })
 unfolding full_run
 begins r s role budget f x run e g =
     let none : 0 ≡ budget - budget = omega arith in (
@@ -61,7 +61,7 @@ begins r s role budget f x run e g =
       omega arith,
       omega arith,
       ap₂ (λ (l : List Step) (p : Polynomial Symbol). full_run_from (setting_of r) s role budget (suc budget) l p 0) (sym g) (sym e)
-          ∙ ap (full_run_from (setting_of r) s role budget (suc budget) run x.terms.items) none,
+          ∙ ap (full_run_from (setting_of r) s role budget (suc budget) run x.terms) none,
     )
 
 -- and it is at least no steps

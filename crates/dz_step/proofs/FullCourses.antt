@@ -7,19 +7,19 @@ use Rattle.dz_algebra.specs.Polynomial.{Polynomial, PolynomialIn}
 use Rattle.dz_algebra.specs.Parts.{leader}
 use Rattle.dz_rank.specs.Rankings.{RankingValue}
 use Rattle.dz_rank.specs.declared.symbols.Symbol.{Symbol}
-use Rattle.dz_terms.specs.Ranked.{symbols_under}
-use Rattle.dz_diff.specs.Lists.{AllOf}
+use Rattle.dz_monomials.specs.Ranked.{symbols_under}
+use Rattle.dz_monomials.specs.Lists.{AllOf}
 use Rattle.dz_diff.specs.Operations.{Setting, setting_of}
-use Rattle.dz_diff.specs.Outcome.{◌>>=◌, given, needs}
+use Rattle.dz_algebra.specs.Outcome.{◌>>=◌, given, needs}
 use Rattle.dz_diff.specs.State.{State, at_place}
-use Rattle.dz_diff.proofs.Answers.{both}
+use Rattle.dz_algebra.proofs.Outcomes.{both}
 use Rattle.dz_diff.proofs.LeaderDerivations.{IsRegular}
 use Rattle.dz_step.specs.declared.Role.{Role}
 use Rattle.dz_step.specs.declared.Step.{Step}
 use Rattle.dz_step.specs.FullRun.{Course, finished, stopped, passed, full_run_from, next_step, derivatives_of}
 use Rattle.dz_algebra.specs.Size.{wide, large}
 use Rattle.dz_poly.specs.Books.{BookValue, IsBook, Lives, polynomial}
-use Rattle.dz_terms.specs.Entries.{IsKeepable}
+use Rattle.dz_monomials.specs.Keeping.{IsKeepable}
 use Rattle.dz_diff.specs.States.{LiveAll, polynomials}
 use Rattle.dz_diff.proofs.Overs.{regular_over}
 use Rattle.dz_step.specs.StepStops.{IsStepStop}

@@ -18,6 +18,5 @@ pub mod Regularity
 pub mod DivisorTables
 pub mod Searches
 pub mod Advances
-pub mod PowerQuotients
 pub mod MultipleTables
 pub mod OwnDivisors

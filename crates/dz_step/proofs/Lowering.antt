@@ -21,8 +21,8 @@ use Rattle.dz_algebra.proofs.Operations.{operation_is}
 use Rattle.dz_algebra.proofs.Products.{monomials_pairs, polynomial_product_commutes}
 use Rattle.dz_algebra.proofs.Totals.{total, total-append, total_pairs, total_collect, total_multiple}
 use Rattle.dz_rank.specs.declared.symbols.Symbol.{Symbol}
-use Rattle.dz_terms.specs.Terms.{times_power}
-use Rattle.dz_diff.proofs.Answers.{bind_ok, ok_same}
+use Rattle.dz_monomials.specs.Terms.{times_power}
+use Rattle.dz_algebra.proofs.Outcomes.{bind_ok, ok_same}
 use Rattle.dz_diff.proofs.MarkedSums.{EachMonomial, each-append, each_collect, exponent_below, exponent_put, marked, total_coefficient, total_same}
 use Rattle.dz_diff.proofs.Degrees.{AtMost, only, none_only, fewer, kept_marked, top_of_product, IsWithout, marked_power, total_without, total_marked_none, exponent_without, exponent_fewer}
 use Rattle.dz_step.specs.Step.{Reduction, reduction_by, step_by}

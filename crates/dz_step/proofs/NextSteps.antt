@@ -14,14 +14,14 @@ use Rattle.dz_rank.specs.Symbols.{derivative_by, exponent_sums}
 use Rattle.dz_rank.specs.declared.symbols.Operator.{Operator}
 use Rattle.dz_rank.specs.declared.symbols.Symbol.{Symbol}
 use Rattle.dz_rank.specs.declared.symbols.Symbol.TheVariants.{Independent, Derivative}
-use Rattle.dz_terms.specs.Ranked.{symbols_under}
-use Rattle.dz_diff.specs.Outcome.{◌>>=◌, needs, given, told_as}
-use Rattle.dz_diff.specs.Lists.{AllOf}
+use Rattle.dz_monomials.specs.Ranked.{symbols_under}
+use Rattle.dz_algebra.specs.Outcome.{◌>>=◌, needs, given, told_as}
+use Rattle.dz_monomials.specs.Lists.{AllOf}
 use Rattle.dz_diff.specs.Operators.{divides, exponent_differences, quotient}
 use Rattle.dz_diff.specs.Operations.{operator_answer, setting_of}
 use Rattle.dz_diff.specs.State.{State, at_place}
 use Rattle.dz_diff.specs.Tests.{Polynomials}
-use Rattle.dz_diff.proofs.Answers.{both}
+use Rattle.dz_algebra.proofs.Outcomes.{both}
 use Rattle.dz_diff.proofs.LeaderDerivations.{IsRegular}
 use Rattle.dz_diff.proofs.Places.{taken}
 use Rattle.dz_step.specs.declared.Role.{Role}

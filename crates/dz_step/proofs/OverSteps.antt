@@ -11,11 +11,11 @@ use Rattle.dz_rank.specs.declared.symbols.Operator.{Operator}
 use Rattle.dz_rank.specs.declared.symbols.Symbol.{Symbol}
 use Rattle.dz_rank.specs.declared.symbols.Symbol.TheVariants.{Independent, Derivative}
 use Rattle.dz_rank.proofs.Belonging.{quotient_is_operator}
-use Rattle.dz_terms.specs.Ranked.{symbols_under}
-use Rattle.dz_diff.specs.Lists.{AllOf}
+use Rattle.dz_monomials.specs.Ranked.{symbols_under}
+use Rattle.dz_monomials.specs.Lists.{AllOf}
 use Rattle.dz_diff.specs.Operators.{is_proper, divides, exponent_differences, quotient}
 use Rattle.dz_diff.specs.Operations.{setting_of}
-use Rattle.dz_terms.specs.Terms.{times_power}
+use Rattle.dz_monomials.specs.Terms.{times_power}
 use Rattle.dz_diff.specs.Over.{IsOver}
 use Rattle.dz_diff.specs.State.{State}
 use Rattle.dz_diff.proofs.LeaderDerivations.{IsRegular}

@@ -8,11 +8,11 @@ use Rattle.dz_algebra.proofs.Canonical.{collected}
 use Rattle.dz_algebra.proofs.Coefficients.{coefficient_of_is}
 use Rattle.dz_rank.specs.declared.symbols.Symbol.{Symbol}
 use Rattle.dz_rank.specs.Rankings.{RankingValue, ranking_cmp}
-use Rattle.dz_terms.specs.Ranked.{symbols_under}
-use Rattle.dz_terms.specs.Stops.{IsStop}
-use Rattle.dz_terms.specs.declared.PolyStop.{PolyStop}
-use Rattle.dz_terms.specs.declared.PolyStop.TheVariants.{Memory}
-use Rattle.dz_terms.proofs.SymbolLaws.{ranking_order}
+use Rattle.dz_monomials.specs.Ranked.{symbols_under}
+use Rattle.dz_monomials.specs.Stops.{IsStop}
+use Rattle.dz_monomials.specs.declared.PolyStop.{PolyStop}
+use Rattle.dz_monomials.specs.declared.PolyStop.TheVariants.{Memory}
+use Rattle.dz_monomials.proofs.SymbolLaws.{ranking_order}
 use Rattle.dz_diff.specs.Tests.{Polynomials}
 use Rattle.dz_step.specs.declared.Which.TheVariants.{Initial}
 use Rattle.dz_step.specs.Step.{multiplier_answer, permitted_if}

@@ -7,8 +7,8 @@ use Rattle.dz_rank.specs.Rankings.{RankingValue}
 use Rattle.dz_rank.specs.Symbols.{HasFourExponents}
 use Rattle.dz_rank.specs.declared.symbols.Symbol.{Symbol}
 use Rattle.dz_rank.specs.declared.symbols.Symbol.TheVariants.{Independent, Derivative}
-use Rattle.dz_terms.specs.Entries.{IsEntry}
-use Rattle.dz_terms.specs.Ranked.{symbols_under}
+use Rattle.dz_monomials.specs.Keeping.{IsTabled}
+use Rattle.dz_monomials.specs.Ranked.{symbols_under}
 use Rattle.dz_diff.proofs.LeaderBounds.{leader_regular}
 use Rattle.dz_diff.proofs.LeaderDerivations.{IsRegular}
 use Rattle.dz_diff.proofs.Overs.{regular_over}
@@ -19,5 +19,5 @@ has_four (Independent j) h = tt
 has_four (Derivative u t) h = h
 
 -- so has the leader
-pub leader_has_four : (r : RankingValue) (p : Polynomial Symbol) (table : Monomial Symbol) (l : Symbol) → IsEntry r p table → leader (symbols_under r) p ≡ Some l → HasFourExponents l
+pub leader_has_four : (r : RankingValue) (p : Polynomial Symbol) (table : Monomial Symbol) (l : Symbol) → IsTabled r p table → leader (symbols_under r) p ≡ Some l → HasFourExponents l
 leader_has_four r p table l h e = has_four l (leader_regular r p l e (regular_over r p (record { canonical = h.keepable.canonical; belongs = h.keepable.belongs })))

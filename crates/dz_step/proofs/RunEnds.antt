@@ -7,7 +7,7 @@ use Rattle.dz_algebra.specs.Parts.{leader}
 use Rattle.dz_algebra.specs.Polynomial.{Polynomial}
 use Rattle.dz_algebra.specs.Size.{wide, large}
 use Rattle.dz_rank.specs.declared.symbols.Symbol.{Symbol}
-use Rattle.dz_diff.specs.Outcome.{◌>>=◌, given, needs, numbered}
+use Rattle.dz_algebra.specs.Outcome.{◌>>=◌, given, needs, numbered}
 use Rattle.dz_diff.specs.Operations.{Setting}
 use Rattle.dz_diff.specs.State.{State, at_place}
 use Rattle.dz_step.specs.Replays.{IsReplayFault, end_of, replay_fault}

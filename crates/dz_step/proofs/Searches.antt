@@ -15,15 +15,15 @@ use Rattle.dz_rank.specs.Rankings.{RankingValue, ranking_cmp}
 use Rattle.dz_rank.specs.Symbols.{HasFourExponents, is_derivative}
 use Rattle.dz_rank.specs.declared.symbols.Symbol.{Symbol}
 use Rattle.dz_rank.specs.declared.symbols.Symbol.TheVariants.{Independent, Derivative}
-use Rattle.dz_terms.specs.Entries.{IsEntry}
-use Rattle.dz_terms.specs.Ranked.{symbols_under}
-use Rattle.dz_terms.proofs.EntryFacts.{degree_stands, table_is_monomial}
-use Rattle.dz_terms.proofs.Multiples.{keys_degrees}
-use Rattle.dz_terms.proofs.SymbolLaws.{ranking_order}
+use Rattle.dz_monomials.specs.Keeping.{IsTabled}
+use Rattle.dz_monomials.specs.Ranked.{symbols_under}
+use Rattle.dz_monomials.proofs.EntryFacts.{degree_stands, table_is_monomial}
+use Rattle.dz_monomials.proofs.Multiples.{keys_degrees}
+use Rattle.dz_monomials.proofs.SymbolLaws.{ranking_order}
 use Rattle.dz_diff.specs.Operations.{setting_of}
 use Rattle.dz_diff.specs.State.{State}
 use Rattle.dz_diff.specs.Tests.{Polynomials}
-use Rattle.dz_diff.proofs.RateTables.{in_at, symbols_have_four}
+use Rattle.dz_monomials.proofs.RateTables.{in_at, symbols_have_four}
 use Rattle.dz_step.specs.declared.Role.{Role}
 use Rattle.dz_step.specs.declared.Step.{Step}
 use Rattle.dz_step.specs.FullRun.{with_derivatives, derivatives_of, or_else, step_with, step_at, first_step, next_step}
@@ -134,11 +134,11 @@ module _ (r : RankingValue) where
   front_polynomial (t ∷ p) = ap (with_derivatives (symbols_under r) t.0) (front_polynomial p) ∙ front_monomial t.0 (symbols (ranking_cmp r) (map (λ t. t.0) p))
 
   -- the table of an entry has the derivatives of its polynomial
-  pub derivatives_stand : (p : Polynomial Symbol) (table : Monomial Symbol) → IsEntry r p table → derivatives_of (symbols_under r) p ≡ derivatives_in table
+  pub derivatives_stand : (p : Polynomial Symbol) (table : Monomial Symbol) → IsTabled r p table → derivatives_of (symbols_under r) p ≡ derivatives_in table
   derivatives_stand p table h = front_polynomial p ∙ ap front (sym (ap (map (λ e. e.0)) h.degrees_are ∙ keys_degrees (ranking_order r) p))
 
   -- ---- a power of the table
-  module _ (p : Polynomial Symbol) (table : Monomial Symbol) (h : IsEntry r p table) (i : ℕ) (d : Symbol × ℕ) (l : i < length table) where
+  module _ (p : Polynomial Symbol) (table : Monomial Symbol) (h : IsTabled r p table) (i : ℕ) (d : Symbol × ℕ) (l : i < length table) where
     -- a symbol above a table is above each of its symbols
     apart : (s : Symbol) (m : Monomial Symbol) (i : ℕ) → i < length m → IsAbove cmp s m → cmp s (slice_index_or m i d).0 ≡ Greater
     apart s [] i l a = absurd (omega arith)
@@ -182,7 +182,7 @@ module _ (r : RankingValue) (s : State) (role : Role) (f : Polynomial Symbol) (t
   from_symbol i = first_step (setting_of r) s role f (derivatives_in (drop i table))
 
   -- at first these are all
-  pub all_symbols : IsEntry r f table → next_step (setting_of r) s role f ≡ from_symbol 0
+  pub all_symbols : IsTabled r f table → next_step (setting_of r) s role f ≡ from_symbol 0
   all_symbols h = ap (first_step (setting_of r) s role f) (derivatives_stand r f table h)
 
   module _ (i : ℕ) (whole : Option Step) (is : whole ≡ from_symbol i) where

@@ -14,14 +14,14 @@ use Rattle.dz_rank.specs.declared.symbols.Operator.{Operator}
 use Rattle.dz_rank.specs.declared.symbols.Symbol.{Symbol}
 use Rattle.dz_rank.specs.Rankings.{RankingValue, ranking_cmp}
 use Rattle.dz_rank.specs.Symbols.{derivative_by, total_order}
-use Rattle.dz_terms.specs.Entries.{IsEntry}
-use Rattle.dz_terms.specs.Ranked.{symbols_under}
-use Rattle.dz_terms.specs.Stops.{IsStop}
-use Rattle.dz_terms.specs.declared.PolyStop.{PolyStop}
-use Rattle.dz_terms.specs.declared.PolyStop.TheVariants as stops
-use Rattle.dz_terms.proofs.EntryFacts.{too_high}
-use Rattle.dz_terms.proofs.SymbolLaws.{ranking_order}
-use Rattle.dz_diff.specs.Outcome.{◌>>=◌, given, needs, told_as}
+use Rattle.dz_monomials.specs.Keeping.{IsTabled}
+use Rattle.dz_monomials.specs.Ranked.{symbols_under}
+use Rattle.dz_monomials.specs.Stops.{IsStop}
+use Rattle.dz_monomials.specs.declared.PolyStop.{PolyStop}
+use Rattle.dz_monomials.specs.declared.PolyStop.TheVariants as stops
+use Rattle.dz_monomials.proofs.EntryFacts.{too_high}
+use Rattle.dz_monomials.proofs.SymbolLaws.{ranking_order}
+use Rattle.dz_algebra.specs.Outcome.{◌>>=◌, given, needs, told_as}
 use Rattle.dz_diff.specs.Operators.{is_proper}
 use Rattle.dz_diff.specs.Operations.{iterated_answer, derivations_answer, operator_answer, setting_of}
 use Rattle.dz_diff.proofs.LeaderBounds.{leader_degree}
@@ -153,7 +153,7 @@ module _ (r : RankingValue) (f q : Polynomial Symbol) (t : Operator) where
           (told_stop stop (reduction_by (symbols_under r) f q m v d k) a)
 
 -- a derivative of too high an order makes no step
-pub too_high_no_step : (r : RankingValue) (f q : Polynomial Symbol) (table : Monomial Symbol) (t : Operator) (l : Symbol) → IsEntry r f table → IsPolynomial (ranking_cmp r) q → leader (symbols_under r) q ≡ Some l → 60 < total_order (derivative_by t l) → reduction_answer (setting_of r) f q t ≡ Err no_step
+pub too_high_no_step : (r : RankingValue) (f q : Polynomial Symbol) (table : Monomial Symbol) (t : Operator) (l : Symbol) → IsTabled r f table → IsPolynomial (ranking_cmp r) q → leader (symbols_under r) q ≡ Some l → 60 < total_order (derivative_by t l) → reduction_answer (setting_of r) f q t ≡ Err no_step
 too_high_no_step r f q table t l h i e o =
     let z = too_high r f table (derivative_by t l) h o in
     let one = leader_degree r l q i e in

@@ -13,16 +13,16 @@ use Rattle.dz_algebra.proofs.Divisors.{gcd_is}
 use Rattle.dz_algebra.proofs.Norms.{Divides, divides_more, content_divides, content_positive}
 use Rattle.dz_rank.specs.declared.symbols.Symbol.{Symbol}
 use Rattle.dz_rank.specs.Rankings.{RankingValue, ranking_cmp}
-use Rattle.dz_terms.specs.Divisions.{DividesAll}
-use Rattle.dz_terms.specs.Ranked.{symbols_under}
-use Rattle.dz_terms.specs.Signs.{with_sign}
-use Rattle.dz_terms.specs.Stops.{IsStop}
-use Rattle.dz_terms.specs.Terms.{times_power}
-use Rattle.dz_terms.specs.declared.PolyStop.{PolyStop}
-use Rattle.dz_terms.specs.declared.sums.Sign.TheVariants.{Minus}
-use Rattle.dz_terms.proofs.Summing.{minus_negates}
-use Rattle.dz_terms.proofs.SymbolLaws.{ranking_order}
-use Rattle.dz_diff.specs.Outcome.{◌>>=◌}
+use Rattle.dz_monomials.specs.Divisions.{DividesAll}
+use Rattle.dz_monomials.specs.Ranked.{symbols_under}
+use Rattle.dz_monomials.specs.Signs.{with_sign}
+use Rattle.dz_monomials.specs.Stops.{IsStop}
+use Rattle.dz_monomials.specs.Terms.{times_power}
+use Rattle.dz_monomials.specs.declared.PolyStop.{PolyStop}
+use Rattle.dz_monomials.specs.declared.sign.Sign.TheVariants.{Minus}
+use Rattle.dz_monomials.proofs.Summing.{minus_negates}
+use Rattle.dz_monomials.proofs.SymbolLaws.{ranking_order}
+use Rattle.dz_algebra.specs.Outcome.{◌>>=◌}
 use Rattle.dz_step.specs.Step.{Reduction, reduction_by}
 
 -- ---- a power changes no coefficient

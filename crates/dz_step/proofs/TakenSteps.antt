@@ -11,14 +11,14 @@ use Rattle.dz_rank.specs.Symbols.{derivative_by, is_derivative}
 use Rattle.dz_rank.specs.declared.symbols.Operator.{Operator}
 use Rattle.dz_rank.specs.declared.symbols.Symbol.{Symbol}
 use Rattle.dz_rank.specs.declared.symbols.Symbol.TheVariants.{Independent, Derivative}
-use Rattle.dz_terms.specs.Ranked.{symbols_under}
-use Rattle.dz_terms.proofs.SymbolLaws.{ranking_order}
-use Rattle.dz_diff.specs.Outcome.{told_as}
+use Rattle.dz_monomials.specs.Ranked.{symbols_under}
+use Rattle.dz_monomials.proofs.SymbolLaws.{ranking_order}
+use Rattle.dz_algebra.specs.Outcome.{told_as}
 use Rattle.dz_diff.specs.Tests.{Polynomials}
 use Rattle.dz_diff.specs.Operations.{operator_answer, setting_of}
-use Rattle.dz_terms.specs.Terms.{times_power}
+use Rattle.dz_monomials.specs.Terms.{times_power}
 use Rattle.dz_diff.specs.State.{State, at_place}
-use Rattle.dz_diff.proofs.Answers.{bind_ok, told_ok, then_ok, given_then, ok_same}
+use Rattle.dz_algebra.proofs.Outcomes.{bind_ok, told_ok, then_ok, given_then, ok_same}
 use Rattle.dz_diff.proofs.Goodness.{Good, InRange, good_terms, good_collected, good_coefficient, good_difference, good_norm, good_operator, good_product, good_separant, goods_divided, goods_times_power}
 use Rattle.dz_step.specs.declared.Which.{Which}
 use Rattle.dz_step.specs.declared.Which.TheVariants.{Initial, Separant}

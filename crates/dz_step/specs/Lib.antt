@@ -10,5 +10,4 @@ pub mod StepOperators
 pub mod Replays
 pub mod Turns
 pub mod Divisors
-pub mod Division
 pub mod Multiples

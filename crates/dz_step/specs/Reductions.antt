@@ -6,10 +6,10 @@ use Rattle.dz_step.specs.declared.reducing.Reduction.{Reduction as ReductionEntr
 
 -- the polynomials of a reduction
 abbrev pub reduction_in : ReductionEntry → Reduction
-reduction_in x = record { factor = x.factor.terms.items; shift = x.shift.terms.items; rest = x.rest.terms.items }
+reduction_in x = record { factor = x.factor.terms; shift = x.shift.terms; rest = x.rest.terms }
 
 -- each is an entry
 pub record IsReductionEntry (r : RankingValue) (x : ReductionEntry) : Type 0 where
-  pub factor : IsEntry r x.factor.terms.items x.factor.degrees.items
-  pub shift : IsEntry r x.shift.terms.items x.shift.degrees.items
-  pub rest : IsEntry r x.rest.terms.items x.rest.degrees.items
+  pub factor : IsEntry r x.factor
+  pub shift : IsEntry r x.shift
+  pub rest : IsEntry r x.rest

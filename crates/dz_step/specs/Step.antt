@@ -9,11 +9,11 @@ use Rattle.dz_algebra.specs.Symbols.{Symbols}
 use Rattle.dz_rank.specs.declared.symbols.Operator.{Operator}
 use Rattle.dz_rank.specs.declared.symbols.Symbol.{Symbol}
 use Rattle.dz_rank.specs.Symbols.{derivative_by}
-use Rattle.dz_diff.specs.Outcome.{◌>>=◌, needs, given, told_as}
+use Rattle.dz_algebra.specs.Outcome.{◌>>=◌, needs, given, told_as}
 use Rattle.dz_diff.specs.Tests.{Polynomials, is_unit, is_member}
 use Rattle.dz_diff.specs.Operators.{is_proper}
 use Rattle.dz_diff.specs.Operations.{Setting, operator_answer}
-use Rattle.dz_terms.specs.Terms.{times_power}
+use Rattle.dz_monomials.specs.Terms.{times_power}
 use Rattle.dz_diff.specs.State.{State, at_place, without_place}
 use Rattle.dz_step.specs.declared.Which.{Which}
 use Rattle.dz_step.specs.declared.Which.TheVariants.{Initial, Separant}

@@ -1,7 +1,7 @@
 -- The operators of steps, and the signature to which they belong.
 use Rattle.std.specs.Prelude.{⊤, ℕ, List}
 use Rattle.dz_rank.specs.Symbols.{IsOperatorOf}
-use Rattle.dz_diff.specs.Lists.{AllOf}
+use Rattle.dz_monomials.specs.Lists.{AllOf}
 use Rattle.dz_step.specs.declared.Step.{Step}
 use Rattle.dz_step.specs.declared.attempts.Attempt.{Attempt}
 use Rattle.dz_step.specs.declared.attempts.AttemptStop.{AttemptStop}

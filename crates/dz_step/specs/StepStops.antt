@@ -4,8 +4,8 @@ use Rattle.dz_algebra.specs.Polynomial.{Polynomial}
 use Rattle.dz_algebra.specs.Size.{wide, large}
 use Rattle.dz_rank.specs.declared.symbols.Symbol.{Symbol}
 use Rattle.dz_poly.specs.Books.{BookValue, Means}
-use Rattle.dz_terms.specs.declared.PolyStop.{PolyStop}
-use Rattle.dz_terms.specs.declared.PolyStop.TheVariants as stops
+use Rattle.dz_monomials.specs.declared.PolyStop.{PolyStop}
+use Rattle.dz_monomials.specs.declared.PolyStop.TheVariants as stops
 use Rattle.dz_step.specs.Step.{Stop, refused, no_step}
 use Rattle.dz_step.specs.declared.stepping.StepStop.{StepStop}
 use Rattle.dz_step.specs.declared.stepping.StepStop.TheVariants.{Memory, Wide, Large, NotStep}

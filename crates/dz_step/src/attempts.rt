@@ -79,14 +79,14 @@ fn next_result(
     step: Step,
 ) -> Result<Entry, StepStop>
     requires stands { StandsIn book.now state.now }
-    requires f { IsEntry book.now.ranking f.now.terms.items f.now.degrees.items }
+    requires f { IsEntry book.now.ranking f.now }
     requires next { next_step (setting_of book.now.ranking) (state_in book.now state.now) role
-        f.now.terms.items ≡ Some step }
+        f.now.terms ≡ Some step }
     ensures ok { IfOk result (λ x. step_in (setting_of book.now.ranking)
-        (state_in book.now state.now) role f.now.terms.items step ≡ Ok x.terms.items) }
-    ensures entry { IfOk result (λ x. IsEntry book.now.ranking x.terms.items x.degrees.items) }
+        (state_in book.now state.now) role f.now.terms step ≡ Ok x.terms) }
+    ensures entry { IfOk result (λ x. IsEntry book.now.ranking x) }
     ensures refused { IfErr result (λ stop. IsStepStop stop (step_in (setting_of book.now.ranking)
-        (state_in book.now state.now) role f.now.terms.items step)) }
+        (state_in book.now state.now) role f.now.terms step)) }
     ensures limited { IfErr result (λ stop. stop ≢ NotStep) }
 {
     // The facts of all books are known of this one.
@@ -106,10 +106,10 @@ fn next_result(
 /// The turn of the step that is next on `f`.
 fn turn_by(book: &Book, state: &State, role: Role, f: &Entry, step: Step) -> Turn
     requires stands { StandsIn book.now state.now }
-    requires f { IsEntry book.now.ranking f.now.terms.items f.now.degrees.items }
+    requires f { IsEntry book.now.ranking f.now }
     requires next { next_step (setting_of book.now.ranking) (state_in book.now state.now) role
-        f.now.terms.items ≡ Some step }
-    ensures { IsTurn book.now.ranking (state_in book.now state.now) role f.now.terms.items result }
+        f.now.terms ≡ Some step }
+    ensures { IsTurn book.now.ranking (state_in book.now state.now) role f.now.terms result }
 {
     match next_result(book, state, role, f, step) {
         Ok(rest) => Turn::Taken(step, rest),
@@ -130,9 +130,9 @@ fn one_turn(
 ) -> Turn
     requires stands { StandsIn book.now state.now }
     requires table { AreDivisors book.now.ranking (state_in book.now state.now) role table.old.items }
-    requires f { IsEntry book.now.ranking f.now.terms.items f.now.degrees.items }
+    requires f { IsEntry book.now.ranking f.now }
     ensures table { AreDivisors book.now.ranking (state_in book.now state.now) role table.new.items }
-    ensures turn { IsTurn book.now.ranking (state_in book.now state.now) role f.now.terms.items
+    ensures turn { IsTurn book.now.ranking (state_in book.now state.now) role f.now.terms
         result }
 {
     match next_step_entry(book, state, role, table, f) {
@@ -144,16 +144,16 @@ fn one_turn(
 
 /// A full run goes on by a step with its result, with which it stays within its budget.
 fn take_step(progress: &mut Progress, step: Step, next: Entry) -> Result<(), AllocError>
-    requires within { length next.terms.items < progress.old.left }
+    requires within { length next.terms < progress.old.left }
     ensures run { OnOk result (progress.new.run ≡ progress.old.run ++ step ∷ []) }
     ensures rest { OnOk result (progress.new.rest ≡ next) }
     ensures left { OnOk result
-        (progress.new.left + 1 + length next.terms.items ≡ progress.old.left) }
+        (progress.new.left + 1 + length next.terms ≡ progress.old.left) }
     ensures refused { OnErr result (progress.new ≡ progress.old) }
 {
     let left = progress.left;
     progress.run.push(step)?;
-    progress.left = left - (1 + next.terms.len() as u32);
+    progress.left = left - (1 + next.term_count() as u32);
     progress.rest = next;
     Ok(())
 }
@@ -169,9 +169,9 @@ fn advance(
 ) -> Result<bool, AttemptStop>
     requires stands { StandsIn book.now state.now }
     requires table { AreDivisors book.now.ranking (state_in book.now state.now) role table.old.items }
-    requires rest { IsEntry book.now.ranking progress.old.rest.terms.items progress.old.rest.degrees.items }
+    requires rest { IsEntry book.now.ranking progress.old.rest }
     ensures table { AreDivisors book.now.ranking (state_in book.now state.now) role table.new.items }
-    ensures rest { IsEntry book.now.ranking progress.new.rest.terms.items progress.new.rest.degrees.items }
+    ensures rest { IsEntry book.now.ranking progress.new.rest }
     ensures less { IfOk result (λ taken. taken ≡ true → progress.new.left < progress.old.left) }
     ensures no_more { progress.new.left ≤ progress.old.left }
     ensures advance { (budget : ℕ) (f : Polynomial Symbol)
@@ -182,7 +182,7 @@ fn advance(
         Turn::AtRest => Ok(false),
         Turn::Stopped(stop) => Err(stop),
         Turn::Taken(step, next) => {
-            if next.terms.len() >= progress.left as usize {
+            if next.term_count() >= progress.left as usize {
                 return Err(AttemptStop::Spent(step));
             }
             if take_step(progress, step, next).is_err() {
@@ -203,15 +203,15 @@ fn run_out(
 ) -> Result<Progress, Attempt>
     requires stands { StandsIn book.now state.now }
     requires table { AreDivisors book.now.ranking (state_in book.now state.now) role table.old.items }
-    requires rest { IsEntry book.now.ranking first.rest.terms.items first.rest.degrees.items }
+    requires rest { IsEntry book.now.ranking first.rest }
     ensures table { AreDivisors book.now.ranking (state_in book.now state.now) role table.new.items }
     ensures ok { IfOk result (λ p. (budget : ℕ) (f : Polynomial Symbol)
         → IsAt book.now.ranking (state_in book.now state.now) role budget f first
         → full_run (setting_of book.now.ranking) (state_in book.now state.now) role budget f
-        ≡ finished p.run p.rest.terms.items (budget - p.left)) }
+        ≡ finished p.run p.rest.terms (budget - p.left)) }
     ensures no_more { IfOk result (λ p. p.left ≤ first.left) }
     ensures rest { IfOk result (λ p.
-        IsEntry book.now.ranking p.rest.terms.items p.rest.degrees.items) }
+        IsEntry book.now.ranking p.rest) }
     ensures stopped { IfErr result (λ a. (budget : ℕ) (f : Polynomial Symbol)
         → IsAt book.now.ranking (state_in book.now state.now) role budget f first
         → IsAttemptOf (full_run (setting_of book.now.ranking) (state_in book.now state.now) role budget f)
@@ -264,15 +264,15 @@ pub fn run_with(
     table: &mut Vec<Option<Divisor>>,
 ) -> Result<FullRun, Attempt>
     requires stands { StandsIn book.now state.now }
-    requires start { IsEntry book.now.ranking start.terms.items start.degrees.items }
+    requires start { IsEntry book.now.ranking start }
     requires table { AreDivisors book.now.ranking (state_in book.now state.now) role table.old.items }
     ensures table { AreDivisors book.now.ranking (state_in book.now state.now) role table.new.items }
-    ensures finished { IfOk result (λ x. (f : Polynomial Symbol) → start.terms.items ≡ norm f
+    ensures finished { IfOk result (λ x. (f : Polynomial Symbol) → start.terms ≡ norm f
         → full_run (setting_of book.now.ranking) (state_in book.now state.now) role budget f
-        ≡ finished x.run x.end.terms.items x.count) }
+        ≡ finished x.run x.end.terms x.count) }
     ensures end { IfOk result (λ x.
-        IsEntry book.now.ranking x.end.terms.items x.end.degrees.items) }
-    ensures stopped { IfErr result (λ a. (f : Polynomial Symbol) → start.terms.items ≡ norm f
+        IsEntry book.now.ranking x.end) }
+    ensures stopped { IfErr result (λ a. (f : Polynomial Symbol) → start.terms ≡ norm f
         → IsAttemptOf (full_run (setting_of book.now.ranking) (state_in book.now state.now) role
         budget f) a.run a.stop) }
 {
@@ -301,13 +301,13 @@ pub fn run_fully(
     budget: u32,
 ) -> Result<FullRun, Attempt>
     requires stands { StandsIn book.now state.now }
-    requires start { IsEntry book.now.ranking start.terms.items start.degrees.items }
-    ensures finished { IfOk result (λ x. (f : Polynomial Symbol) → start.terms.items ≡ norm f
+    requires start { IsEntry book.now.ranking start }
+    ensures finished { IfOk result (λ x. (f : Polynomial Symbol) → start.terms ≡ norm f
         → full_run (setting_of book.now.ranking) (state_in book.now state.now) role budget f
-        ≡ finished x.run x.end.terms.items x.count) }
+        ≡ finished x.run x.end.terms x.count) }
     ensures end { IfOk result (λ x.
-        IsEntry book.now.ranking x.end.terms.items x.end.degrees.items) }
-    ensures stopped { IfErr result (λ a. (f : Polynomial Symbol) → start.terms.items ≡ norm f
+        IsEntry book.now.ranking x.end) }
+    ensures stopped { IfErr result (λ a. (f : Polynomial Symbol) → start.terms ≡ norm f
         → IsAttemptOf (full_run (setting_of book.now.ranking) (state_in book.now state.now) role
         budget f) a.run a.stop) }
 {

@@ -12,7 +12,6 @@ ghost use Rattle.dz_step.specs.declared.Role.TheVariants.{Free};
 ghost use Rattle.dz_step.specs.Step.{is_divisor, usable};
 
 use crate::permission::is_granted;
-use crate::reducing::degree_of;
 use crate::{Role, Which};
 use dz_diff::{State, leader_of};
 use dz_poly::Book;
@@ -51,8 +50,8 @@ pub(crate) fn lets_divide(role: Role, place: u16) -> bool
 #[tactic(auto, using(crate::proofs::Regularity::leader_has_four))]
 /// What is kept of the equation at a place before anything is asked.
 fn unasked(ranking: &Ranking, role: Role, place: u16, q: &Entry) -> Option<Divisor>
-    requires { IsEntry ranking.now q.now.terms.items q.now.degrees.items }
-    ensures { (hs : Polynomials) → IsKeptOf ranking.now hs role place q.now.terms.items result }
+    requires { IsEntry ranking.now q.now }
+    ensures { (hs : Polynomials) → IsKeptOf ranking.now hs role place q.now.terms result }
 {
     if !lets_divide(role, place) {
         return None;
@@ -60,7 +59,7 @@ fn unasked(ranking: &Ranking, role: Role, place: u16, q: &Entry) -> Option<Divis
     let lead = leader_of(q)?;
     Some(Divisor {
         lead,
-        degree: degree_of(ranking, q, lead),
+        degree: q.degree(ranking, lead),
         initial: Answer::NotAsked,
         separant: Answer::NotAsked,
     })
@@ -110,10 +109,10 @@ fn with_answer(divisor: Divisor, which: Which, granted: bool) -> Divisor
 
 /// What is kept of an equation without a role where both its multipliers were asked for.
 pub fn asked_divisor(ranking: &Ranking, q: &Entry, initial: bool, separant: bool) -> Option<Divisor>
-    requires { IsEntry ranking.now q.now.terms.items q.now.degrees.items }
+    requires { IsEntry ranking.now q.now }
     ensures { (hs : Polynomials) (place : ℕ)
-        → AreAnswersOf ranking.now hs q.now.terms.items initial separant
-        → IsKeptOf ranking.now hs Free place q.now.terms.items result }
+        → AreAnswersOf ranking.now hs q.now.terms initial separant
+        → IsKeptOf ranking.now hs Free place q.now.terms result }
 {
     let Some(divisor) = unasked(ranking, Role::Free, 1, q) else {
         return None;
@@ -133,14 +132,14 @@ pub(crate) fn answered(
     which: Which,
 ) -> Result<(bool, Divisor), AllocError>
     requires stands { StandsIn book.now state.now }
-    requires q { IsEntry book.now.ranking q.now.terms.items q.now.degrees.items }
+    requires q { IsEntry book.now.ranking q.now }
     requires divisor { IsDivisorOf book.now.ranking
-        (usable role (state_in book.now state.now).inequations) q.now.terms.items divisor }
+        (usable role (state_in book.now state.now).inequations) q.now.terms divisor }
     ensures answer { IfOk result (λ x. x.0 ≡ is_multiplier book.now.ranking
         (usable role (state_in book.now state.now).inequations) which divisor.lead
-        q.now.terms.items) }
+        q.now.terms) }
     ensures divisor { IfOk result (λ x. IsDivisorOf book.now.ranking
-        (usable role (state_in book.now state.now).inequations) q.now.terms.items x.1) }
+        (usable role (state_in book.now state.now).inequations) q.now.terms x.1) }
 {
     let answer = match which {
         Which::Initial => divisor.initial,

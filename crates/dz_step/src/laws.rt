@@ -4,7 +4,7 @@
 
 ghost use Rattle.std.specs.Prelude.{◌≤◌};
 ghost use Rattle.dz_rank.specs.Rankings.{RankingValue};
-ghost use Rattle.dz_diff.specs.Lists.{AllOf};
+ghost use Rattle.dz_monomials.specs.Lists.{AllOf};
 ghost use Rattle.dz_diff.specs.Operations.{Setting};
 ghost use Rattle.dz_diff.specs.Over.{IsOver};
 ghost use Rattle.dz_diff.specs.State.{State};

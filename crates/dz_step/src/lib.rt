@@ -21,7 +21,7 @@ pub mod stepping;
 mod steps;
 
 pub use attempts::{Attempt, AttemptStop, FullRun, reduce_fully, run_fully, run_with};
-pub use dividing::{divided_entry, divides_exactly, is_divided};
+pub use dividing::divides_exactly;
 pub use divisors::{Divisor, asked_divisor, divisors_of};
 pub use dz_diff::State;
 use dz_rank::Operator;

@@ -9,13 +9,12 @@ ghost use Rattle.dz_rank.specs.Rankings.{ranking_cmp};
 ghost use Rattle.dz_rank.specs.Symbols.{HasFourExponents};
 ghost use Rattle.dz_rank.specs.declared.symbols.Symbol.{Symbol};
 ghost use Rattle.dz_terms.specs.Entries.{IsEntry};
-ghost use Rattle.dz_terms.specs.Ranked.{symbols_under};
+ghost use Rattle.dz_monomials.specs.Ranked.{symbols_under};
 ghost use Rattle.dz_diff.specs.Operators.{quotient};
 ghost use Rattle.dz_step.specs.FullRun.{derivatives_of};
 ghost use Rattle.dz_step.specs.Multiples.{has_proper_derivative, is_enough_by, is_proper_one};
 ghost use Rattle.dz_step.specs.Multiples.{is_reducible_at, is_reducible_by};
 
-use crate::reducing::degree_of;
 use crate::stepping::takes_derivation;
 use dz_diff::leader_of;
 use dz_rank::{Ranking, Symbol, quotient};
@@ -40,15 +39,15 @@ fn is_enough(v: Symbol, d: u16, lead: Symbol, least: u16) -> bool
 /// Whether an entry has, in some derivative of a leader, enough for a step by what has this leader
 /// and this degree.
 fn has_enough(ranking: &Ranking, f: &Entry, lead: Symbol, least: u16) -> bool
-    requires f { IsEntry ranking.now f.now.terms.items f.now.degrees.items }
+    requires f { IsEntry ranking.now f.now }
     requires leader { HasFourExponents lead }
     ensures { (q : Polynomial Symbol) → least ≡ degree (ranking_cmp ranking.now) lead q
-        → result ≡ list_any (is_reducible_at (symbols_under ranking.now) f.now.terms.items q lead)
-        (derivatives_of (symbols_under ranking.now) f.now.terms.items) }
+        → result ≡ list_any (is_reducible_at (symbols_under ranking.now) f.now.terms q lead)
+        (derivatives_of (symbols_under ranking.now) f.now.terms) }
 {
     // The ranking is for the contract alone.
     let _ = ranking;
-    let table = f.degrees.as_slice();
+    let table = f.symbol_degrees();
     'powers: for k in 0..table.len() {
         let (v, d) = table[k];
         if let Symbol::Independent(_) = v {
@@ -65,15 +64,15 @@ fn has_enough(ranking: &Ranking, f: &Entry, lead: Symbol, least: u16) -> bool
 /// derivative of `q` has in it; no, where `q` is ground.
 #[tactic(auto, using(crate::proofs::Regularity::leader_has_four))]
 pub fn is_reducible(ranking: &Ranking, f: &Entry, q: &Entry) -> bool
-    requires f { IsEntry ranking.now f.now.terms.items f.now.degrees.items }
-    requires q { IsEntry ranking.now q.now.terms.items q.now.degrees.items }
-    ensures { result ≡ is_reducible_by (symbols_under ranking.now) f.now.terms.items
-        q.now.terms.items (leader (symbols_under ranking.now) q.now.terms.items) }
+    requires f { IsEntry ranking.now f.now }
+    requires q { IsEntry ranking.now q.now }
+    ensures { result ≡ is_reducible_by (symbols_under ranking.now) f.now.terms
+        q.now.terms (leader (symbols_under ranking.now) q.now.terms) }
 {
     let Some(lead) = leader_of(q) else {
         return false;
     };
-    has_enough(ranking, f, lead, degree_of(ranking, q, lead))
+    has_enough(ranking, f, lead, q.degree(ranking, lead))
 }
 
 /// Whether a derivative is a proper one of a leader.
@@ -90,13 +89,13 @@ fn is_above(v: Symbol, lead: Symbol) -> bool
 
 /// Whether an entry has a proper derivative of a leader.
 pub fn has_proper_derivative(ranking: &Ranking, f: &Entry, lead: Symbol) -> bool
-    requires f { IsEntry ranking.now f.now.terms.items f.now.degrees.items }
+    requires f { IsEntry ranking.now f.now }
     requires leader { HasFourExponents lead }
-    ensures { result ≡ has_proper_derivative (symbols_under ranking.now) lead f.now.terms.items }
+    ensures { result ≡ has_proper_derivative (symbols_under ranking.now) lead f.now.terms }
 {
     // The ranking is for the contract alone.
     let _ = ranking;
-    let table = f.degrees.as_slice();
+    let table = f.symbol_degrees();
     'powers: for k in 0..table.len() {
         let v = table[k].0;
         if let Symbol::Independent(_) = v {

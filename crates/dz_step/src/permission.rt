@@ -1,10 +1,10 @@
 //! Which multipliers a state permits.
 
-ghost use Rattle.std.specs.Prelude.{◌≡◌, Some, Ok, IfOk, IfErr};
+ghost use Rattle.std.specs.Prelude.{◌≡◌, Some, Ok, IfOk};
 ghost use Rattle.dz_algebra.specs.Parts.{leader};
+ghost use Rattle.dz_terms.specs.Answers.{Answers};
 ghost use Rattle.dz_terms.specs.Entries.{IsEntry};
-ghost use Rattle.dz_terms.specs.Ranked.{symbols_under};
-ghost use Rattle.dz_terms.specs.Stops.{IsStop};
+ghost use Rattle.dz_monomials.specs.Ranked.{symbols_under};
 ghost use Rattle.dz_diff.specs.Operations.{setting_of};
 ghost use Rattle.dz_diff.specs.State.{at_place, without_place};
 ghost use Rattle.dz_diff.specs.States.{StandsIn, state_in};
@@ -14,14 +14,14 @@ ghost use Rattle.dz_step.specs.Step.{is_allowed, multiplier_answer, multiplier_o
 
 use crate::stepping::takes_derivation;
 use crate::{Role, Which};
-use dz_diff::{State, initial_of, is_among, is_unit, leader_of, partial_derivative};
+use dz_diff::{State, initial_of, is_among, is_unit, leader_of};
 use dz_poly::{Book, Poly};
 use dz_rank::{Operator, Ranking, Symbol};
-use dz_terms::{Entry, PolyStop, into_norm};
+use dz_terms::{Entry, PolyStop, into_norm, partial_derivative};
 use std::alloc::{AllocError, Global};
 
 /// The initial or the separant of an entry by a symbol.
-#[tactic(auto, using(crate::proofs::Permissions::initial_answered))]
+#[tactic(auto, using(dz_terms::proofs::Answered::answered, dz_terms::proofs::Answered::stopped, crate::proofs::Permissions::initial_answered))]
 pub fn multiplier(
     alloc: Global,
     ranking: &Ranking,
@@ -29,13 +29,9 @@ pub fn multiplier(
     lead: Symbol,
     which: Which,
 ) -> Result<Entry, PolyStop>
-    requires { IsEntry ranking.now q.now.terms.items q.now.degrees.items }
-    ensures ok { IfOk result (λ m.
-        multiplier_answer (symbols_under ranking.now) which lead q.now.terms.items
-        ≡ Ok m.terms.items) }
-    ensures entry { IfOk result (λ m. IsEntry ranking.now m.terms.items m.degrees.items) }
-    ensures refused { IfErr result (λ stop. IsStop stop
-        (multiplier_answer (symbols_under ranking.now) which lead q.now.terms.items)) }
+    requires { IsEntry ranking.now q.now }
+    ensures { Answers ranking.now result
+        (multiplier_answer (symbols_under ranking.now) which lead q.now.terms) }
 {
     match which {
         Which::Initial => Ok(initial_of(alloc, ranking, q, lead)?),
@@ -57,9 +53,9 @@ fn left_out(role: Role) -> usize
 /// Whether a multiplier is ground and not zero, or its norm is an inequation that counts in a role.
 pub fn may_multiply(book: &Book, state: &State, role: Role, multiplier: Entry) -> bool
     requires stands { StandsIn book.now state.now }
-    requires multiplier { IsEntry book.now.ranking multiplier.terms.items multiplier.degrees.items }
+    requires multiplier { IsEntry book.now.ranking multiplier }
     ensures { result ≡ is_allowed (symbols_under book.now.ranking)
-        (usable role (state_in book.now state.now).inequations) multiplier.terms.items }
+        (usable role (state_in book.now state.now).inequations) multiplier.terms }
 {
     if is_unit(&multiplier) {
         return true;
@@ -79,11 +75,11 @@ pub fn is_granted(
     which: Which,
 ) -> Result<bool, AllocError>
     requires stands { StandsIn book.now state.now }
-    requires q { IsEntry book.now.ranking q.now.terms.items q.now.degrees.items }
-    requires leads { leader (symbols_under book.now.ranking) q.now.terms.items ≡ Some lead }
+    requires q { IsEntry book.now.ranking q.now }
+    requires leads { leader (symbols_under book.now.ranking) q.now.terms ≡ Some lead }
     ensures { IfOk result (λ b. b ≡ permitted_if (symbols_under book.now.ranking)
         (usable role (state_in book.now state.now).inequations)
-        (multiplier_answer (symbols_under book.now.ranking) which lead q.now.terms.items)) }
+        (multiplier_answer (symbols_under book.now.ranking) which lead q.now.terms)) }
 {
     match multiplier(book.allocator(), book.ranking(), q, lead, which) {
         Ok(multiplier) => Ok(may_multiply(book, state, role, multiplier)),

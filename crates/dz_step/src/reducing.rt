@@ -4,25 +4,14 @@ ghost use Rattle.std.specs.Prelude.{◌≡◌, ◌≤◌, ◌<◌, Ok, IfOk, IfE
 ghost use Rattle.dz_algebra.specs.Parts.{degree};
 ghost use Rattle.dz_rank.specs.Rankings.{ranking_cmp};
 ghost use Rattle.dz_terms.specs.Entries.{IsEntry};
-ghost use Rattle.dz_terms.specs.Ranked.{symbols_under};
-ghost use Rattle.dz_terms.specs.Stops.{IsStop};
+ghost use Rattle.dz_monomials.specs.Ranked.{symbols_under};
+ghost use Rattle.dz_monomials.specs.Stops.{IsStop};
 ghost use Rattle.dz_step.specs.Reductions.{IsReductionEntry, reduction_in};
 ghost use Rattle.dz_step.specs.Step.{reduction_by};
 
 use dz_rank::{Ranking, Symbol};
-use dz_terms::{
-    Entry, PolyStop, Sign, common_content, exponent_of, part_entry, product, quotient_by, sum,
-};
+use dz_terms::{Entry, PolyStop, Sign, common_content, part_entry, product, quotient_by, sum};
 use std::alloc::Global;
-
-#[tactic(auto, using(dz_terms::proofs::EntryFacts::table_is_monomial, dz_terms::proofs::EntryFacts::degree_stands,))]
-/// The degree of an entry in a symbol.
-pub(crate) fn degree_of(ranking: &Ranking, entry: &Entry, symbol: Symbol) -> u16
-    requires { IsEntry ranking.now entry.now.terms.items entry.now.degrees.items }
-    ensures { result ≡ degree (ranking_cmp ranking.now) symbol entry.now.terms.items }
-{
-    exponent_of(ranking, entry.degrees.as_slice(), symbol)
-}
 
 /// What a reduction makes: the factor times what is reduced is the rest, and the shift times what
 /// it is reduced by.
@@ -46,22 +35,22 @@ pub(crate) fn reduced(
     v: Symbol,
     e: u16,
 ) -> Result<Reduction, PolyStop>
-    requires f { IsEntry ranking.now f.now.terms.items f.now.degrees.items }
-    requires q { IsEntry ranking.now q.now.terms.items q.now.degrees.items }
-    requires m { IsEntry ranking.now m.terms.items m.degrees.items }
-    requires occurs { 0 < degree (ranking_cmp ranking.now) v f.now.terms.items }
-    requires enough { e ≤ degree (ranking_cmp ranking.now) v f.now.terms.items }
+    requires f { IsEntry ranking.now f.now }
+    requires q { IsEntry ranking.now q.now }
+    requires m { IsEntry ranking.now m }
+    requires occurs { 0 < degree (ranking_cmp ranking.now) v f.now.terms }
+    requires enough { e ≤ degree (ranking_cmp ranking.now) v f.now.terms }
     ensures ok { IfOk result (λ x.
-        reduction_by (symbols_under ranking.now) f.now.terms.items q.now.terms.items m.terms.items v
-        (degree (ranking_cmp ranking.now) v f.now.terms.items) e ≡ Ok (reduction_in x)) }
+        reduction_by (symbols_under ranking.now) f.now.terms q.now.terms m.terms v
+        (degree (ranking_cmp ranking.now) v f.now.terms) e ≡ Ok (reduction_in x)) }
     ensures entries { IfOk result (λ x. IsReductionEntry ranking.now x) }
     ensures refused { IfErr result (λ stop. IsStop stop
-        (reduction_by (symbols_under ranking.now) f.now.terms.items q.now.terms.items m.terms.items v
-        (degree (ranking_cmp ranking.now) v f.now.terms.items) e)) }
+        (reduction_by (symbols_under ranking.now) f.now.terms q.now.terms m.terms v
+        (degree (ranking_cmp ranking.now) v f.now.terms) e)) }
 {
-    let d = degree_of(ranking, f, v);
+    let d = f.degree(ranking, v);
     let top = part_entry(alloc, ranking, f, v, d, d - e)?;
-    let k = common_content(m.terms.as_slice(), top.terms.as_slice());
+    let k = common_content(&m, &top);
     let factor = quotient_by(m, k);
     let shift = quotient_by(top, k);
     let left = product(alloc, ranking, &factor, f)?;

@@ -7,7 +7,7 @@ ghost use Rattle.dz_rank.specs.Rankings.{RankingValue, ranking_cmp};
 ghost use Rattle.dz_rank.specs.Symbols.{HasFourExponents};
 ghost use Rattle.dz_rank.specs.declared.symbols.Symbol.{Symbol};
 ghost use Rattle.dz_terms.specs.Entries.{IsEntry};
-ghost use Rattle.dz_terms.specs.Ranked.{symbols_under};
+ghost use Rattle.dz_monomials.specs.Ranked.{symbols_under};
 ghost use Rattle.dz_diff.specs.Operations.{setting_of};
 ghost use Rattle.dz_diff.specs.States.{StandsIn, state_in};
 ghost use Rattle.dz_diff.specs.Tests.{Polynomials};
@@ -120,12 +120,12 @@ pub fn next_step_entry(
 ) -> Result<Option<Step>, AllocError>
     requires stands { StandsIn book.now state.now }
     requires table { AreDivisors book.now.ranking (state_in book.now state.now) role table.old.items }
-    requires f { IsEntry book.now.ranking f.now.terms.items f.now.degrees.items }
+    requires f { IsEntry book.now.ranking f.now }
     ensures table { AreDivisors book.now.ranking (state_in book.now state.now) role table.new.items }
     ensures step { IfOk result (λ o. o ≡ next_step (setting_of book.now.ranking)
-        (state_in book.now state.now) role f.now.terms.items) }
+        (state_in book.now state.now) role f.now.terms) }
 {
-    for power in f.degrees.as_slice() {
+    for power in f.symbol_degrees() {
         let (v, d) = *power;
         if let Symbol::Independent(_) = v {
             return Ok(None);
@@ -141,9 +141,9 @@ pub fn next_step_entry(
 /// Whether an entry admits a step at a state in a role.
 pub fn admits(book: &Book, state: &State, role: Role, f: &Entry) -> Result<bool, AllocError>
     requires stands { StandsIn book.now state.now }
-    requires f { IsEntry book.now.ranking f.now.terms.items f.now.degrees.items }
+    requires f { IsEntry book.now.ranking f.now }
     ensures { IfOk result (λ b. b ≡ admits (setting_of book.now.ranking)
-        (state_in book.now state.now) role f.now.terms.items) }
+        (state_in book.now state.now) role f.now.terms) }
 {
     let mut table = divisors_of(book, state, role)?;
     let next = next_step_entry(book, state, role, &mut table, f)?;

@@ -5,7 +5,7 @@ ghost use Rattle.dz_algebra.specs.Parts.{leader};
 ghost use Rattle.dz_poly.specs.Books.{IsAdded, IsKept, Lives, polynomial};
 ghost use Rattle.dz_rank.specs.Symbols.{derivative_by};
 ghost use Rattle.dz_terms.specs.Entries.{IsEntry};
-ghost use Rattle.dz_terms.specs.Ranked.{symbols_under};
+ghost use Rattle.dz_monomials.specs.Ranked.{symbols_under};
 ghost use Rattle.dz_diff.specs.Operations.{setting_of};
 ghost use Rattle.dz_diff.specs.Operators.{is_proper};
 ghost use Rattle.dz_diff.specs.States.{StandsIn, state_in};
@@ -15,11 +15,11 @@ ghost use Rattle.dz_step.specs.StepStops.{GivesStep, IsStepStop};
 
 use crate::Step;
 use crate::permission::equation_at;
-use crate::reducing::{Reduction, degree_of, reduced};
-use dz_diff::{State, applied, initial_of, leader_of, partial_derivative};
+use crate::reducing::{Reduction, reduced};
+use dz_diff::{State, applied, initial_of, leader_of};
 use dz_poly::{Book, Limit, Poly, PolyStop};
 use dz_rank::{Operator, Ranking, Symbol, raise};
-use dz_terms::{Entry, into_norm};
+use dz_terms::{Entry, into_norm, partial_derivative};
 use std::alloc::{AllocError, Global};
 use thiserror::Error;
 
@@ -83,18 +83,18 @@ fn reduction_by_derivative(
     lead: Symbol,
     v: Symbol,
 ) -> Result<Reduction, StepStop>
-    requires f { IsEntry ranking.now f.now.terms.items f.now.degrees.items }
-    requires q { IsEntry ranking.now q.now.terms.items q.now.degrees.items }
-    requires leads { leader (symbols_under ranking.now) q.now.terms.items ≡ Some lead }
+    requires f { IsEntry ranking.now f.now }
+    requires q { IsEntry ranking.now q.now }
+    requires leads { leader (symbols_under ranking.now) q.now.terms ≡ Some lead }
     requires proper { is_proper operator ≡ true }
     requires derivative { v ≡ derivative_by operator lead }
-    ensures ok { IfOk result (λ x. reduction_answer (setting_of ranking.now) f.now.terms.items
-        q.now.terms.items operator ≡ Ok (reduction_in x)) }
+    ensures ok { IfOk result (λ x. reduction_answer (setting_of ranking.now) f.now.terms
+        q.now.terms operator ≡ Ok (reduction_in x)) }
     ensures entries { IfOk result (λ x. IsReductionEntry ranking.now x) }
     ensures refused { IfErr result (λ stop. IsStepStop stop (reduction_answer (setting_of ranking.now)
-        f.now.terms.items q.now.terms.items operator)) }
+        f.now.terms q.now.terms operator)) }
 {
-    if degree_of(ranking, f, v) == 0 {
+    if f.degree(ranking, v) == 0 {
         return Err(StepStop::NotStep);
     }
     let derivative = applied(alloc, ranking, q, operator)?;
@@ -113,19 +113,19 @@ fn reduction_by_itself(
     lead: Symbol,
     v: Symbol,
 ) -> Result<Reduction, StepStop>
-    requires f { IsEntry ranking.now f.now.terms.items f.now.degrees.items }
-    requires q { IsEntry ranking.now q.now.terms.items q.now.degrees.items }
-    requires leads { leader (symbols_under ranking.now) q.now.terms.items ≡ Some lead }
+    requires f { IsEntry ranking.now f.now }
+    requires q { IsEntry ranking.now q.now }
+    requires leads { leader (symbols_under ranking.now) q.now.terms ≡ Some lead }
     requires improper { is_proper operator ≡ false }
     requires derivative { v ≡ derivative_by operator lead }
-    ensures ok { IfOk result (λ x. reduction_answer (setting_of ranking.now) f.now.terms.items
-        q.now.terms.items operator ≡ Ok (reduction_in x)) }
+    ensures ok { IfOk result (λ x. reduction_answer (setting_of ranking.now) f.now.terms
+        q.now.terms operator ≡ Ok (reduction_in x)) }
     ensures entries { IfOk result (λ x. IsReductionEntry ranking.now x) }
     ensures refused { IfErr result (λ stop. IsStepStop stop (reduction_answer (setting_of ranking.now)
-        f.now.terms.items q.now.terms.items operator)) }
+        f.now.terms q.now.terms operator)) }
 {
-    let e = degree_of(ranking, q, lead);
-    if degree_of(ranking, f, v) < e {
+    let e = q.degree(ranking, lead);
+    if f.degree(ranking, v) < e {
         return Err(StepStop::NotStep);
     }
     let initial = initial_of(alloc, ranking, q, lead)?;
@@ -141,13 +141,13 @@ pub(crate) fn reduction_entry(
     q: &Entry,
     operator: Operator,
 ) -> Result<Reduction, StepStop>
-    requires f { IsEntry ranking.now f.now.terms.items f.now.degrees.items }
-    requires q { IsEntry ranking.now q.now.terms.items q.now.degrees.items }
-    ensures ok { IfOk result (λ x. reduction_answer (setting_of ranking.now) f.now.terms.items
-        q.now.terms.items operator ≡ Ok (reduction_in x)) }
+    requires f { IsEntry ranking.now f.now }
+    requires q { IsEntry ranking.now q.now }
+    ensures ok { IfOk result (λ x. reduction_answer (setting_of ranking.now) f.now.terms
+        q.now.terms operator ≡ Ok (reduction_in x)) }
     ensures entries { IfOk result (λ x. IsReductionEntry ranking.now x) }
     ensures refused { IfErr result (λ stop. IsStepStop stop (reduction_answer (setting_of ranking.now)
-        f.now.terms.items q.now.terms.items operator)) }
+        f.now.terms q.now.terms operator)) }
 {
     let Some(lead) = leader_of(q) else {
         return Err(StepStop::NotStep);
@@ -169,12 +169,12 @@ pub fn reduction_at(
     step: Step,
 ) -> Result<Reduction, StepStop>
     requires stands { StandsIn book.now state.now }
-    requires f { IsEntry book.now.ranking f.now.terms.items f.now.degrees.items }
+    requires f { IsEntry book.now.ranking f.now }
     ensures ok { IfOk result (λ x. reduction_at (setting_of book.now.ranking)
-        (state_in book.now state.now) f.now.terms.items step ≡ Ok (reduction_in x)) }
+        (state_in book.now state.now) f.now.terms step ≡ Ok (reduction_in x)) }
     ensures entries { IfOk result (λ x. IsReductionEntry book.now.ranking x) }
     ensures refused { IfErr result (λ stop. IsStepStop stop (reduction_at
-        (setting_of book.now.ranking) (state_in book.now state.now) f.now.terms.items step)) }
+        (setting_of book.now.ranking) (state_in book.now state.now) f.now.terms step)) }
 {
     let Some(p) = equation_at(state, step.place) else {
         return Err(StepStop::NotStep);
@@ -196,13 +196,13 @@ pub(crate) fn step_entry(
     q: &Entry,
     operator: Operator,
 ) -> Result<Entry, StepStop>
-    requires f { IsEntry ranking.now f.now.terms.items f.now.degrees.items }
-    requires q { IsEntry ranking.now q.now.terms.items q.now.degrees.items }
-    ensures ok { IfOk result (λ x. step_answer (setting_of ranking.now) f.now.terms.items
-        q.now.terms.items operator ≡ Ok x.terms.items) }
-    ensures entry { IfOk result (λ x. IsEntry ranking.now x.terms.items x.degrees.items) }
+    requires f { IsEntry ranking.now f.now }
+    requires q { IsEntry ranking.now q.now }
+    ensures ok { IfOk result (λ x. step_answer (setting_of ranking.now) f.now.terms
+        q.now.terms operator ≡ Ok x.terms) }
+    ensures entry { IfOk result (λ x. IsEntry ranking.now x) }
     ensures refused { IfErr result (λ stop. IsStepStop stop (step_answer (setting_of ranking.now)
-        f.now.terms.items q.now.terms.items operator)) }
+        f.now.terms q.now.terms operator)) }
 {
     let reduction = reduction_entry(alloc, ranking, f, q, operator)?;
     Ok(into_norm(reduction.rest))

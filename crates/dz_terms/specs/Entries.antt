@@ -1,28 +1,20 @@
 -- What a book keeps of a polynomial.
-use Rattle.std.specs.Prelude.{◌≡◌, ◌≤◌, All, map, unsigned_abs, None}
-use Rattle.dz_algebra.specs.Amount.{greatest}
 use Rattle.dz_algebra.specs.Monomial.{Monomial}
-use Rattle.dz_algebra.specs.Polynomial.{Polynomial, IsPolynomial, PolynomialIn}
-use Rattle.dz_algebra.specs.Size.{limit_of}
+use Rattle.dz_algebra.specs.Polynomial.{Polynomial}
 use Rattle.dz_rank.specs.declared.symbols.Symbol.{Symbol}
-use Rattle.dz_rank.specs.Rankings.{RankingValue, ranking_cmp}
-use Rattle.dz_rank.specs.Symbols.{BelongsTo}
-use Rattle.dz_terms.specs.Degrees.{degrees}
-use Rattle.dz_terms.specs.Ranked.{symbols_under}
+use Rattle.dz_rank.specs.Rankings.{RankingValue}
+use Rattle.dz_monomials.specs.Keeping.{IsTabled}
 
--- what is true of every polynomial in a book: it is canonical, its symbols belong to the signature, it passes no
--- limit of size, and its coefficients are in range
-pub record IsKeepable (r : RankingValue) (p : Polynomial Symbol) : Type 0 where
-  pub canonical : IsPolynomial (ranking_cmp r) p
-  pub belongs : PolynomialIn (BelongsTo r.signature) p
-  pub small : limit_of (symbols_under r) (map (λ t. t.0) p) ≡ None
-  pub in_range : All (λ t. unsigned_abs t.1 ≤ greatest) p
+-- what an entry holds: the terms of a polynomial, the greatest monomial first, and its degree in each symbol that
+-- occurs, the greatest symbol first
+pub record EntryValue : Type 0 where
+  pub terms : Polynomial Symbol
+  pub degrees : Monomial Symbol
 
--- the terms of a polynomial that may stand in a book, and the table of its degrees
-pub record IsEntry (r : RankingValue) (terms : Polynomial Symbol) (table : Monomial Symbol) : Type 0 where
-  pub keepable : IsKeepable r terms
-  pub degrees_are : table ≡ degrees (ranking_cmp r) terms
+-- the terms of an entry may stand in a book, and the table is that of their degrees
+abbrev pub IsEntry : RankingValue → EntryValue → Type 0
+IsEntry r x = IsTabled r x.terms x.degrees
 
 -- and so they are under some ranking
-abbrev pub IsSomeEntry : Polynomial Symbol → Monomial Symbol → Type 0
-IsSomeEntry terms table = (r : RankingValue) × IsEntry r terms table
+abbrev pub IsSomeEntry : EntryValue → Type 0
+IsSomeEntry x = (r : RankingValue) × IsEntry r x

@@ -1,10 +1,2 @@
-pub mod Ranked
-pub mod Degrees
 pub mod Entries
-pub mod Stops
-pub mod Cells
-pub mod Merging
-pub mod Signs
-pub mod Supports
-pub mod Terms
-pub mod Divisions
+pub mod Answers

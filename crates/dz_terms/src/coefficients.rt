@@ -6,17 +6,15 @@ ghost use Rattle.dz_algebra.specs.Monomial.{IsMonomial};
 ghost use Rattle.dz_algebra.specs.Parts.{coefficient_of as coefficient};
 ghost use Rattle.dz_algebra.specs.Polynomial.{IsPolynomial};
 ghost use Rattle.dz_terms.specs.Entries.{IsEntry};
-ghost use Rattle.dz_terms.specs.Terms.{times_power};
+ghost use Rattle.dz_monomials.specs.Terms.{times_power};
 ghost use Rattle.dz_rank.specs.Rankings.{ranking_cmp};
 
-use crate::degrees::degrees_of;
 use crate::entry::Entry;
-use crate::powers::{exponent_of, with_exponent};
-use crate::term::Term;
+use dz_monomials::{Term, degrees_of, exponent_of, with_exponent};
 use dz_rank::{Ranking, Symbol};
 use std::alloc::{AllocError, Global};
 
-#[tactic(auto, using(crate::proofs::PowerCoefficients::power_left, crate::proofs::PowerCoefficients::no_power))]
+#[tactic(auto, using(dz_monomials::proofs::PowerCoefficients::power_left, dz_monomials::proofs::PowerCoefficients::no_power))]
 /// The term with `left` as its exponent of a symbol, where that exponent is this one.
 fn term_part(
     alloc: Global,
@@ -81,22 +79,14 @@ pub fn part_entry(
     exponent: u16,
     left: u16,
 ) -> Result<Entry, AllocError>
-    requires entry { IsEntry ranking.now entry.now.terms.items entry.now.degrees.items }
+    requires entry { IsEntry ranking.now entry.now }
     requires less { left ≤ exponent }
-    ensures terms { IfOk result (λ all. all.terms.items
+    ensures terms { IfOk result (λ all. all.terms
         ≡ times_power (ranking_cmp ranking.now) symbol left
-        (coefficient (ranking_cmp ranking.now) symbol exponent entry.now.terms.items)) }
-    ensures entry { IfOk result (λ all.
-        IsEntry ranking.now all.terms.items all.degrees.items) }
+        (coefficient (ranking_cmp ranking.now) symbol exponent entry.now.terms)) }
+    ensures entry { IfOk result (λ all. IsEntry ranking.now all) }
 {
-    let terms = part_terms(
-        alloc,
-        ranking,
-        entry.terms.as_slice(),
-        symbol,
-        exponent,
-        left,
-    )?;
+    let terms = part_terms(alloc, ranking, entry.terms(), symbol, exponent, left)?;
     let degrees = degrees_of(alloc, ranking, terms.as_slice())?;
     Ok(Entry { terms, degrees })
 }
@@ -109,11 +99,10 @@ pub fn coefficient_entry(
     symbol: Symbol,
     exponent: u16,
 ) -> Result<Entry, AllocError>
-    requires { IsEntry ranking.now entry.now.terms.items entry.now.degrees.items }
-    ensures terms { IfOk result (λ all. all.terms.items
-        ≡ coefficient (ranking_cmp ranking.now) symbol exponent entry.now.terms.items) }
-    ensures entry { IfOk result (λ all.
-        IsEntry ranking.now all.terms.items all.degrees.items) }
+    requires { IsEntry ranking.now entry.now }
+    ensures terms { IfOk result (λ all. all.terms
+        ≡ coefficient (ranking_cmp ranking.now) symbol exponent entry.now.terms) }
+    ensures entry { IfOk result (λ all. IsEntry ranking.now all) }
 {
     part_entry(alloc, ranking, entry, symbol, exponent, 0)
 }

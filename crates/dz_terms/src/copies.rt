@@ -3,7 +3,7 @@
 ghost use Rattle.std.specs.Prelude.{◌≡◌, IfOk};
 
 use crate::entry::Entry;
-use crate::term::Term;
+use dz_monomials::Term;
 use smallvec::SmallVec;
 use std::alloc::{AllocError, Global};
 
@@ -21,8 +21,8 @@ fn copied_terms(alloc: Global, terms: &[Term]) -> Result<Vec<Term>, AllocError>
 
 /// The same polynomial.
 pub fn copied(alloc: Global, entry: &Entry) -> Result<Entry, AllocError>
-    ensures terms { IfOk result (λ all. all.terms.items ≡ entry.now.terms.items) }
-    ensures degrees { IfOk result (λ all. all.degrees.items ≡ entry.now.degrees.items) }
+    ensures terms { IfOk result (λ all. all.terms ≡ entry.now.terms) }
+    ensures degrees { IfOk result (λ all. all.degrees ≡ entry.now.degrees) }
 {
     let terms = copied_terms(alloc, entry.terms.as_slice())?;
     let degrees = SmallVec::from_slice(alloc, entry.degrees.as_slice())?;

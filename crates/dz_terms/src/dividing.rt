@@ -1,21 +1,18 @@
 //! Division of all coefficients by a number.
 
-ghost use Rattle.std.specs.Prelude.{◌≡◌, ◌≤◌, ◌<◌, pos, length, int_div, unsigned_abs, IfOk};
+ghost use Rattle.std.specs.Prelude.{◌≡◌, ◌≤◌, ◌<◌, pos, length, int_div, unsigned_abs};
 ghost use Rattle.dz_algebra.specs.Amount.{greatest};
 ghost use Rattle.dz_algebra.specs.Norm.{content, divided, gcd, norm, signed_content};
-ghost use Rattle.dz_terms.specs.Divisions.{DividesAll};
+ghost use Rattle.dz_monomials.specs.Divisions.{DividesAll};
 ghost use Rattle.dz_terms.specs.Entries.{IsEntry, IsSomeEntry};
-ghost use Rattle.dz_terms.specs.Signs.{signed};
+ghost use Rattle.dz_monomials.specs.Signs.{signed};
 ghost use Rattle.dz_rank.specs.Rankings.{RankingValue};
 
 use crate::entry::Entry;
-use crate::sums::Sign;
-use crate::term::Term;
 use dz_int::common_divisor;
-use smallvec::SmallVec;
-use std::alloc::{AllocError, Global};
+use dz_monomials::{Sign, Term};
 
-#[tactic(auto, using(crate::proofs::Divisibility::size_divided))]
+#[tactic(auto, using(dz_monomials::proofs::Divisibility::size_divided))]
 /// The coefficient of a term divided by a number with a sign, rounded toward zero.
 fn quotient(term: &Term, sign: Sign, size: u128) -> i128
     requires positive { 0 < size }
@@ -30,56 +27,9 @@ fn quotient(term: &Term, sign: Sign, size: u128) -> i128
     }
 }
 
-/// A term with its coefficient divided by a number with a sign.
-fn divided_term(alloc: Global, term: &Term, sign: Sign, size: u128) -> Result<Term, AllocError>
-    requires positive { 0 < size }
-    requires in_range { size ≤ greatest }
-    ensures { IfOk result (λ all.
-        all ≡ (term.now.0, int_div term.now.1 (signed sign (pos size)))) }
-{
-    let powers = SmallVec::from_slice(alloc, term.powers())?;
-    Ok(Term::new(powers, quotient(term, sign, size)))
-}
-
-/// The terms with their coefficients divided by a number with a sign.
-fn divided_terms(
-    alloc: Global,
-    terms: &[Term],
-    sign: Sign,
-    size: u128,
-) -> Result<Vec<Term>, AllocError>
-    requires positive { 0 < size }
-    requires in_range { size ≤ greatest }
-    ensures { IfOk result (λ all. all.items ≡ divided (signed sign (pos size)) terms.now) }
-{
-    let mut all = Vec::with_capacity(alloc, terms.len())?;
-    for term in terms {
-        all.push(divided_term(alloc, term, sign, size)?)?;
-    }
-    Ok(all)
-}
-
-/// An entry with its coefficients divided by a number with a sign.
-pub fn divided_entry(
-    alloc: Global,
-    entry: &Entry,
-    sign: Sign,
-    size: u128,
-) -> Result<Entry, AllocError>
-    requires positive { 0 < size }
-    requires in_range { size ≤ greatest }
-    ensures terms { IfOk result (λ all.
-        all.terms.items ≡ divided (signed sign (pos size)) entry.now.terms.items) }
-    ensures degrees { IfOk result (λ all. all.degrees.items ≡ entry.now.degrees.items) }
-{
-    let terms = divided_terms(alloc, entry.terms.as_slice(), sign, size)?;
-    let degrees = SmallVec::from_slice(alloc, entry.degrees.as_slice())?;
-    Ok(Entry { terms, degrees })
-}
-
-#[tactic(auto, using(crate::proofs::Contents::none_left, crate::proofs::Contents::one_more, crate::proofs::Contents::is_one))]
+#[tactic(auto, using(dz_monomials::proofs::Contents::none_left, dz_monomials::proofs::Contents::one_more, dz_monomials::proofs::Contents::is_one))]
 /// The greatest common divisor of the coefficients, 0 for no terms.
-pub fn content_of(terms: &[Term]) -> u128
+fn content_of(terms: &[Term]) -> u128
     ensures { result ≡ content terms.now }
 {
     let mut all = 0;
@@ -94,7 +44,7 @@ pub fn content_of(terms: &[Term]) -> u128
 }
 
 /// The sign of the first coefficient.
-pub fn first_sign(terms: &[Term]) -> Sign
+fn first_sign(terms: &[Term]) -> Sign
     requires { 0 < length terms.now }
     ensures { signed result (pos (content terms.now)) ≡ signed_content terms.now }
 {
@@ -105,7 +55,7 @@ pub fn first_sign(terms: &[Term]) -> Sign
     }
 }
 
-#[tactic(auto, using(crate::proofs::Divisibility::none_divided, crate::proofs::Divisibility::one_divided, crate::proofs::Divisibility::all_divided))]
+#[tactic(auto, using(dz_monomials::proofs::Divisibility::none_divided, dz_monomials::proofs::Divisibility::one_divided, dz_monomials::proofs::Divisibility::all_divided))]
 /// Divides the coefficients of terms by a number with a sign.
 fn divide(terms: &mut Vec<Term>, sign: Sign, size: u128)
     requires positive { 0 < size }
@@ -117,47 +67,53 @@ fn divide(terms: &mut Vec<Term>, sign: Sign, size: u128)
     }
 }
 
+/// An entry with its coefficients divided by a number with a sign; nothing is copied.
+fn divided(entry: Entry, sign: Sign, size: u128) -> Entry
+    requires positive { 0 < size }
+    requires in_range { size ≤ greatest }
+    ensures terms { result.terms ≡ divided (signed sign (pos size)) entry.terms }
+    ensures degrees { result.degrees ≡ entry.degrees }
+{
+    let mut entry = entry;
+    divide(&mut entry.terms, sign, size);
+    entry
+}
+
 /// The coefficients divided by `k`, which divides all of them; nothing is copied.
 pub fn quotient_by(entry: Entry, k: u128) -> Entry
-    requires entry { IsSomeEntry entry.terms.items entry.degrees.items }
+    requires entry { IsSomeEntry entry }
     requires positive { 1 ≤ k }
-    requires divides { DividesAll k entry.terms.items }
-    ensures terms { result.terms.items ≡ divided (pos k) entry.terms.items }
-    ensures entry { (r : RankingValue) → IsEntry r entry.terms.items entry.degrees.items
-        → IsEntry r result.terms.items result.degrees.items }
+    requires divides { DividesAll k entry.terms }
+    ensures terms { result.terms ≡ divided (pos k) entry.terms }
+    ensures entry { (r : RankingValue) → IsEntry r entry → IsEntry r result }
 {
     if k == 1 {
         return entry;
     }
-    if entry.terms.is_empty() {
+    if entry.is_zero() {
         return entry;
     }
-    let mut entry = entry;
-    divide(&mut entry.terms, Sign::Plus, k);
-    entry
+    divided(entry, Sign::Plus, k)
 }
 
 /// The norm: divided by the greatest common divisor of the coefficients, with the first positive;
 /// nothing is copied.
 pub fn into_norm(entry: Entry) -> Entry
-    requires { IsSomeEntry entry.terms.items entry.degrees.items }
-    ensures terms { result.terms.items ≡ norm entry.terms.items }
-    ensures entry { (r : RankingValue) → IsEntry r entry.terms.items entry.degrees.items
-        → IsEntry r result.terms.items result.degrees.items }
+    requires { IsSomeEntry entry }
+    ensures terms { result.terms ≡ norm entry.terms }
+    ensures entry { (r : RankingValue) → IsEntry r entry → IsEntry r result }
 {
-    if entry.terms.is_empty() {
+    if entry.is_zero() {
         return entry;
     }
-    let mut entry = entry;
-    let sign = first_sign(entry.terms.as_slice());
-    let content = content_of(entry.terms.as_slice());
-    divide(&mut entry.terms, sign, content);
-    entry
+    let sign = first_sign(entry.terms());
+    let content = content_of(entry.terms());
+    divided(entry, sign, content)
 }
 
 /// The greatest common divisor of the coefficients of two polynomials.
-pub fn common_content(a: &[Term], b: &[Term]) -> u128
-    ensures { result ≡ gcd (content a.now) (content b.now) }
+pub fn common_content(a: &Entry, b: &Entry) -> u128
+    ensures { result ≡ gcd (content a.now.terms) (content b.now.terms) }
 {
-    common_divisor(content_of(a), content_of(b))
+    common_divisor(content_of(a.terms()), content_of(b.terms()))
 }

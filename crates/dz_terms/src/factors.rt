@@ -4,15 +4,15 @@ ghost use Rattle.std.specs.Prelude.{◌≡◌, ◌≢◌, ◌≤◌, ◌<◌, �
 ghost use Rattle.dz_algebra.specs.Amount.{greatest};
 ghost use Rattle.dz_algebra.specs.declared.Limit.TheVariants.{Order};
 ghost use Rattle.dz_terms.specs.Entries.{IsEntry};
-ghost use Rattle.dz_terms.specs.Terms.{power_term};
-ghost use Rattle.dz_terms.specs.declared.PolyStop.TheVariants.{Memory, Large};
+ghost use Rattle.dz_monomials.specs.Terms.{power_term};
+ghost use Rattle.dz_monomials.specs.declared.PolyStop.TheVariants.{Memory, Large};
 ghost use Rattle.dz_rank.specs.Rankings.{RankingValue};
 ghost use Rattle.dz_rank.specs.Symbols.{BelongsTo, total_order};
 
-use crate::PolyStop;
 use crate::entry::Entry;
 use crate::making::{number, power};
 use dz_algebra::Limit;
+use dz_monomials::PolyStop;
 use dz_rank::Symbol;
 use std::alloc::Global;
 
@@ -35,7 +35,7 @@ fn order_of(symbol: Symbol) -> u16
     }
 }
 
-#[tactic(auto, using(crate::proofs::OneTerm::number_as_power))]
+#[tactic(auto, using(dz_monomials::proofs::OneTerm::number_as_power))]
 /// A number times a power of a symbol, whose total order may be too high.
 pub fn factor(
     alloc: Global,
@@ -46,9 +46,9 @@ pub fn factor(
     requires nonzero { coefficient ≢ pos 0 }
     requires in_range { unsigned_abs coefficient ≤ greatest }
     ensures terms { IfOk result (λ entry.
-        entry.terms.items ≡ power_term coefficient symbol exponent) }
+        entry.terms ≡ power_term coefficient symbol exponent) }
     ensures entry { IfOk result (λ entry. (r : RankingValue) → BelongsTo r.signature symbol
-        → IsEntry r entry.terms.items entry.degrees.items) }
+        → IsEntry r entry) }
     ensures refused { IfErr result (λ e. (e ≡ Memory)
         ⊎ ((e ≡ Large Order) × (0 < exponent) × (60 < total_order symbol))) }
 {

@@ -6,23 +6,22 @@ ghost use Rattle.dz_algebra.specs.Monomial.{IsMonomial};
 ghost use Rattle.dz_algebra.specs.Polynomial.{IsPolynomial, pairs, term_times};
 ghost use Rattle.dz_algebra.specs.Size.{operation};
 ghost use Rattle.dz_algebra.specs.declared.Limit.TheVariants.{Exponent, Terms};
-ghost use Rattle.dz_terms.specs.Stops.{IsStop};
-ghost use Rattle.dz_terms.specs.Cells.{capped, caps};
-ghost use Rattle.dz_terms.specs.Degrees.{degrees, has_high_exponent};
+ghost use Rattle.dz_terms.specs.Answers.{Answers};
+ghost use Rattle.dz_monomials.specs.Stops.{IsStop};
+ghost use Rattle.dz_monomials.specs.Cells.{capped, caps};
+ghost use Rattle.dz_monomials.specs.Degrees.{degrees, has_high_exponent};
 ghost use Rattle.dz_terms.specs.Entries.{IsEntry};
-ghost use Rattle.dz_terms.specs.Ranked.{symbols_under};
-ghost use Rattle.dz_terms.specs.Supports.{IsSupportOf};
-ghost use Rattle.dz_terms.specs.declared.PolyStop.TheVariants.{Memory, Large};
+ghost use Rattle.dz_monomials.specs.Ranked.{symbols_under};
+ghost use Rattle.dz_monomials.specs.Supports.{IsSupportOf};
+ghost use Rattle.dz_monomials.specs.declared.PolyStop.TheVariants.{Memory, Large};
 ghost use Rattle.dz_rank.specs.Rankings.{ranking_cmp};
 
-use crate::PolyStop;
-use crate::absorbing::absorb;
-use crate::cell::Cell;
+use crate::concluding::conclude;
 use crate::entry::Entry;
-use crate::finish::{MOST_SYMBOLS, MOST_TERMS, Support, conclude};
-use crate::powers::{Powers, multiply};
-use crate::term::Term;
 use dz_algebra::Limit;
+use dz_monomials::{
+    Cell, MOST_SYMBOLS, MOST_TERMS, PolyStop, Powers, Support, Term, absorb, multiply,
+};
 use dz_rank::Ranking;
 use std::alloc::Global;
 use std::collections::VecDeque;
@@ -102,25 +101,25 @@ fn product_support(
     p: &Entry,
     q: &Entry,
 ) -> Result<Support, PolyStop>
-    requires first { IsEntry ranking.now p.now.terms.items p.now.degrees.items }
-    requires second { IsEntry ranking.now q.now.terms.items q.now.degrees.items }
-    requires first_nonzero { p.now.terms.items ≢ [] }
-    requires second_nonzero { q.now.terms.items ≢ [] }
+    requires first { IsEntry ranking.now p.now }
+    requires second { IsEntry ranking.now q.now }
+    requires first_nonzero { p.now.terms ≢ [] }
+    requires second_nonzero { q.now.terms ≢ [] }
     ensures ok { IfOk result (λ support. IsSupportOf ranking.now
-        (pairs (ranking_cmp ranking.now) p.now.terms.items q.now.terms.items)
+        (pairs (ranking_cmp ranking.now) p.now.terms q.now.terms)
         support.degrees.items support.cells.items) }
     ensures refused { IfErr result (λ e. IsStop e (operation (symbols_under ranking.now)
-        (pairs (ranking_cmp ranking.now) p.now.terms.items q.now.terms.items))) }
+        (pairs (ranking_cmp ranking.now) p.now.terms q.now.terms))) }
 {
-    let degrees = multiply(alloc, ranking, p.degrees.as_slice(), q.degrees.as_slice())?;
+    let degrees = multiply(alloc, ranking, p.symbol_degrees(), q.symbol_degrees())?;
     if degrees.len() > MOST_SYMBOLS {
         return Err(PolyStop::Large(Limit::Symbols));
     }
-    let cells = product_cells(alloc, ranking, p.terms.as_slice(), q.terms.as_slice())?;
+    let cells = product_cells(alloc, ranking, p.terms(), q.terms())?;
     Ok(Support { degrees, cells })
 }
 
-#[tactic(auto, using(crate::proofs::Multiplying::left_zero, crate::proofs::Multiplying::right_zero, crate::proofs::Multiplying::zero_entry, crate::proofs::Multiplying::not_zero,))]
+#[tactic(auto, using(crate::proofs::Answered::answered, crate::proofs::Answered::stopped, dz_monomials::proofs::Multiplying::left_zero, dz_monomials::proofs::Multiplying::right_zero, dz_monomials::proofs::Multiplying::zero_entry, dz_monomials::proofs::Multiplying::not_zero,))]
 /// The product of two polynomials, of which the first is taken apart.
 fn product_by_halves(
     alloc: Global,
@@ -128,40 +127,32 @@ fn product_by_halves(
     p: &Entry,
     q: &Entry,
 ) -> Result<Entry, PolyStop>
-    requires first { IsEntry ranking.now p.now.terms.items p.now.degrees.items }
-    requires second { IsEntry ranking.now q.now.terms.items q.now.degrees.items }
-    ensures ok { IfOk result (λ product. operation (symbols_under ranking.now)
-        (pairs (ranking_cmp ranking.now) p.now.terms.items q.now.terms.items)
-        ≡ Ok product.terms.items) }
-    ensures entry { IfOk result (λ product.
-        IsEntry ranking.now product.terms.items product.degrees.items) }
-    ensures refused { IfErr result (λ e. IsStop e (operation (symbols_under ranking.now)
-        (pairs (ranking_cmp ranking.now) p.now.terms.items q.now.terms.items))) }
+    requires first { IsEntry ranking.now p.now }
+    requires second { IsEntry ranking.now q.now }
+    ensures { Answers ranking.now result
+        (operation (symbols_under ranking.now) (pairs (ranking_cmp ranking.now) p.now.terms
+        q.now.terms)) }
 {
-    if p.terms.is_empty() {
+    if p.is_zero() {
         return Ok(Entry::zero(alloc));
     }
-    if q.terms.is_empty() {
+    if q.is_zero() {
         return Ok(Entry::zero(alloc));
     }
     let support = product_support(alloc, ranking, p, q)?;
     conclude(alloc, ranking, support)
 }
 
-#[tactic(auto, using(crate::proofs::Halves::factors_swapped))]
+#[tactic(auto, using(crate::proofs::Answered::answered, crate::proofs::Answered::stopped, dz_monomials::proofs::Halves::factors_swapped))]
 /// The product of two polynomials; the one with fewer terms is taken apart.
 pub fn product(alloc: Global, ranking: &Ranking, p: &Entry, q: &Entry) -> Result<Entry, PolyStop>
-    requires first { IsEntry ranking.now p.now.terms.items p.now.degrees.items }
-    requires second { IsEntry ranking.now q.now.terms.items q.now.degrees.items }
-    ensures ok { IfOk result (λ product. operation (symbols_under ranking.now)
-        (pairs (ranking_cmp ranking.now) p.now.terms.items q.now.terms.items)
-        ≡ Ok product.terms.items) }
-    ensures entry { IfOk result (λ product.
-        IsEntry ranking.now product.terms.items product.degrees.items) }
-    ensures refused { IfErr result (λ e. IsStop e (operation (symbols_under ranking.now)
-        (pairs (ranking_cmp ranking.now) p.now.terms.items q.now.terms.items))) }
+    requires first { IsEntry ranking.now p.now }
+    requires second { IsEntry ranking.now q.now }
+    ensures { Answers ranking.now result
+        (operation (symbols_under ranking.now) (pairs (ranking_cmp ranking.now) p.now.terms
+        q.now.terms)) }
 {
-    if q.terms.len() < p.terms.len() {
+    if q.term_count() < p.term_count() {
         let product = product_by_halves(alloc, ranking, q, p)?;
         return Ok(product);
     }

@@ -3,12 +3,11 @@
 ghost use Rattle.std.specs.Prelude.{◌≡◌, ◌↔◌, IsTrue};
 
 use crate::entry::Entry;
-use crate::powers::compare_monomials;
-use crate::term::Term;
+use dz_monomials::{Term, compare_monomials};
 use dz_rank::Ranking;
 use std::cmp::Ordering;
 
-#[tactic(auto, using(crate::proofs::SameTerms::same_pair, crate::proofs::SameTerms::other_pair))]
+#[tactic(auto, using(dz_monomials::proofs::SameTerms::same_pair, dz_monomials::proofs::SameTerms::other_pair))]
 /// Whether two terms are equal.
 fn same_term(ranking: &Ranking, a: &Term, b: &Term) -> bool
     ensures { IsTrue result ↔ (a.now ≡ b.now) }
@@ -22,9 +21,9 @@ fn same_term(ranking: &Ranking, a: &Term, b: &Term) -> bool
     }
 }
 
-#[tactic(auto, using(crate::proofs::SameTerms::other_term, crate::proofs::SameTerms::other_length, crate::proofs::SameTerms::all_same,))]
+#[tactic(auto, using(dz_monomials::proofs::SameTerms::other_term, dz_monomials::proofs::SameTerms::other_length, dz_monomials::proofs::SameTerms::all_same,))]
 /// Whether two lists of terms are equal.
-pub fn same_terms(ranking: &Ranking, a: &[Term], b: &[Term]) -> bool
+fn same_terms(ranking: &Ranking, a: &[Term], b: &[Term]) -> bool
     ensures { IsTrue result ↔ (a.now ≡ b.now) }
 {
     if a.len() != b.len() {
@@ -40,7 +39,7 @@ pub fn same_terms(ranking: &Ranking, a: &[Term], b: &[Term]) -> bool
 
 /// Whether two entries are of one polynomial.
 pub fn same_entries(ranking: &Ranking, a: &Entry, b: &Entry) -> bool
-    ensures { IsTrue result ↔ (a.now.terms.items ≡ b.now.terms.items) }
+    ensures { IsTrue result ↔ (a.now.terms ≡ b.now.terms) }
 {
     same_terms(ranking, a.terms.as_slice(), b.terms.as_slice())
 }

@@ -1,38 +1,28 @@
 //! Sums and differences.
 
-ghost use Rattle.std.specs.Prelude.{◌≡◌, ◌++◌, Ok, IfOk, IfErr, OnOk};
+ghost use Rattle.std.specs.Prelude.{◌≡◌, ◌++◌, Ok, IfOk, OnOk};
 ghost use Rattle.dz_algebra.specs.Amount.{amount, amounts, gathered};
 ghost use Rattle.dz_algebra.specs.Gather.{merge};
 ghost use Rattle.dz_algebra.specs.Monomial.{monomial_cmp};
 ghost use Rattle.dz_algebra.specs.Polynomial.{IsPolynomial};
 ghost use Rattle.dz_algebra.specs.Size.{operation};
-ghost use Rattle.dz_terms.specs.Stops.{IsStop};
-ghost use Rattle.dz_terms.specs.Cells.{add_capped, capped, caps};
+ghost use Rattle.dz_terms.specs.Answers.{Answers};
+ghost use Rattle.dz_monomials.specs.Cells.{add_capped, capped, caps};
 ghost use Rattle.dz_terms.specs.Entries.{IsEntry};
-ghost use Rattle.dz_terms.specs.Ranked.{symbols_under};
-ghost use Rattle.dz_terms.specs.Signs.{signed, with_sign};
-ghost use Rattle.dz_terms.specs.Supports.{IsSupportOf};
-ghost use Rattle.dz_terms.specs.declared.sums.Sign.TheVariants.{Plus};
+ghost use Rattle.dz_monomials.specs.Ranked.{symbols_under};
+ghost use Rattle.dz_monomials.specs.Signs.{signed, with_sign};
+ghost use Rattle.dz_monomials.specs.Supports.{IsSupportOf};
+ghost use Rattle.dz_monomials.specs.declared.sign.Sign.TheVariants.{Plus};
 ghost use Rattle.dz_rank.specs.Rankings.{ranking_cmp};
 
-use crate::PolyStop;
-use crate::cell::Cell;
+use crate::concluding::conclude;
 use crate::entry::Entry;
-use crate::finish::{Support, conclude};
-use crate::powers::{common_multiple, compare_monomials};
-use crate::term::Term;
+use dz_monomials::{Cell, PolyStop, Sign, Support, Term, common_multiple, compare_monomials};
 use dz_rank::Ranking;
 use smallvec::SmallVec;
 use std::alloc::{AllocError, Global};
 use std::cmp::Ordering;
 use std::collections::VecDeque;
-
-/// The sign with which the second side of a sum is taken.
-#[derive(Clone, Copy)]
-pub enum Sign {
-    Plus,
-    Minus,
-}
 
 /// The cell of a term that is taken with a sign.
 fn cell_of(alloc: Global, sign: Sign, term: &Term) -> Result<Cell, AllocError>
@@ -72,7 +62,7 @@ fn push_cells(
     Ok(())
 }
 
-#[tactic(auto, using(crate::proofs::Summing::terms_ended))]
+#[tactic(auto, using(dz_monomials::proofs::Summing::terms_ended))]
 /// One pass over the terms of both sides, the second taken with a sign.
 fn merged_cells(
     alloc: Global,
@@ -137,7 +127,7 @@ fn sum_cells(
     Ok(cells)
 }
 
-#[tactic(auto, using(crate::proofs::Summing::sum_support))]
+#[tactic(auto, using(dz_monomials::proofs::Summing::sum_support))]
 /// The support of a sum.
 fn sum_support(
     alloc: Global,
@@ -146,17 +136,18 @@ fn sum_support(
     sign: Sign,
     b: &Entry,
 ) -> Result<Support, AllocError>
-    requires first { IsEntry ranking.now a.now.terms.items a.now.degrees.items }
-    requires second { IsEntry ranking.now b.now.terms.items b.now.degrees.items }
+    requires first { IsEntry ranking.now a.now }
+    requires second { IsEntry ranking.now b.now }
     ensures { IfOk result (λ support. IsSupportOf ranking.now
-        (a.now.terms.items ++ with_sign sign b.now.terms.items)
+        (a.now.terms ++ with_sign sign b.now.terms)
         support.degrees.items support.cells.items) }
 {
-    let degrees = common_multiple(alloc, ranking, a.degrees.as_slice(), b.degrees.as_slice())?;
-    let cells = sum_cells(alloc, ranking, a.terms.as_slice(), sign, b.terms.as_slice())?;
+    let degrees = common_multiple(alloc, ranking, a.symbol_degrees(), b.symbol_degrees())?;
+    let cells = sum_cells(alloc, ranking, a.terms(), sign, b.terms())?;
     Ok(Support { degrees, cells })
 }
 
+#[tactic(auto, using(crate::proofs::Answered::answered, crate::proofs::Answered::stopped))]
 /// The sum of two polynomials, the second taken with a sign.
 pub fn sum(
     alloc: Global,
@@ -165,14 +156,10 @@ pub fn sum(
     sign: Sign,
     b: &Entry,
 ) -> Result<Entry, PolyStop>
-    requires first { IsEntry ranking.now a.now.terms.items a.now.degrees.items }
-    requires second { IsEntry ranking.now b.now.terms.items b.now.degrees.items }
-    ensures ok { IfOk result (λ sum. operation (symbols_under ranking.now)
-        (a.now.terms.items ++ with_sign sign b.now.terms.items) ≡ Ok sum.terms.items) }
-    ensures entry { IfOk result (λ sum.
-        IsEntry ranking.now sum.terms.items sum.degrees.items) }
-    ensures refused { IfErr result (λ e. IsStop e (operation (symbols_under ranking.now)
-        (a.now.terms.items ++ with_sign sign b.now.terms.items))) }
+    requires first { IsEntry ranking.now a.now }
+    requires second { IsEntry ranking.now b.now }
+    ensures { Answers ranking.now result
+        (operation (symbols_under ranking.now) (a.now.terms ++ with_sign sign b.now.terms)) }
 {
     let support = sum_support(alloc, ranking, a, sign, b)?;
     conclude(alloc, ranking, support)

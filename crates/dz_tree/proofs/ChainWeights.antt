@@ -5,11 +5,11 @@ use Rattle.std.proofs.Common.{◌≡◌, ◌≤◌, ◌<◌, ◌+◌, ◌-◌, �
 use Rattle.std.proofs.lemmas.Bool.{le-leb, leb-false, leb-true}
 use Rattle.std.proofs.lemmas.Bool.Decides.{nat_tests}
 use Rattle.std.proofs.lemmas.List.{drop_all}
-use Rattle.dz_diff.specs.Lists.{AllOf}
+use Rattle.dz_monomials.specs.Lists.{AllOf}
 use Rattle.dz_diff.specs.Operations.{Setting}
-use Rattle.dz_diff.specs.Outcome.{◌>>=◌, needs, numbered}
+use Rattle.dz_algebra.specs.Outcome.{◌>>=◌, needs, numbered}
 use Rattle.dz_diff.specs.State.{State}
-use Rattle.dz_diff.proofs.Answers.{both}
+use Rattle.dz_algebra.proofs.Outcomes.{both}
 use Rattle.dz_tree.specs.declared.entry_fault.EntryFault.{EntryFault}
 use Rattle.dz_tree.specs.declared.entry_fault.EntryFault.TheVariants as faults
 use Rattle.dz_move.specs.declared.lines.Line.{Line as ProgramLine}

@@ -21,15 +21,15 @@ use Rattle.dz_rank.specs.declared.symbols.Operator.{Operator}
 use Rattle.dz_rank.specs.declared.symbols.Symbol.{Symbol}
 use Rattle.dz_rank.specs.declared.symbols.Symbol.TheVariants.{Independent, Derivative}
 use Rattle.dz_rank.proofs.Belonging.{least_common_belongs}
-use Rattle.dz_terms.specs.Ranked.{symbols_under}
-use Rattle.dz_terms.proofs.SymbolLaws.{ranking_order}
-use Rattle.dz_diff.specs.Lists.{AllOf}
+use Rattle.dz_monomials.specs.Ranked.{symbols_under}
+use Rattle.dz_monomials.proofs.SymbolLaws.{ranking_order}
+use Rattle.dz_monomials.specs.Lists.{AllOf}
 use Rattle.dz_diff.specs.Operators.{divides, is_proper, quotient}
 use Rattle.dz_diff.specs.Operations.{operator_answer, setting_of}
-use Rattle.dz_diff.specs.Outcome.{numbered}
+use Rattle.dz_algebra.specs.Outcome.{numbered}
 use Rattle.dz_diff.specs.Over.{IsOver}
 use Rattle.dz_diff.specs.State.{State, at_place}
-use Rattle.dz_diff.proofs.Answers.{bind_ok, both, is_false, told_ok}
+use Rattle.dz_algebra.proofs.Outcomes.{bind_ok, both, is_false, told_ok}
 use Rattle.dz_diff.proofs.Degrees.{AtMost, IsWithout}
 use Rattle.dz_diff.proofs.Goodness.{good_separant}
 use Rattle.dz_diff.proofs.LeaderBounds.{leader_degree, leader_is_one, leader_regular, under_leader}

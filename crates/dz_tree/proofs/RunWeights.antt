@@ -6,14 +6,14 @@ use Rattle.dz_algebra.specs.Size.{Refusal, wide, large}
 use Rattle.dz_algebra.specs.Symbols.{Symbols}
 use Rattle.dz_rank.specs.declared.symbols.Symbol.{Symbol}
 use Rattle.dz_poly.specs.Books.{BookValue, IsBook}
-use Rattle.dz_terms.specs.Ranked.{symbols_under}
+use Rattle.dz_monomials.specs.Ranked.{symbols_under}
 use Rattle.dz_diff.specs.Operations.{Setting, setting_of}
-use Rattle.dz_diff.specs.Outcome.{◌>>=◌, given, needs, numbered, told_as}
+use Rattle.dz_algebra.specs.Outcome.{◌>>=◌, given, needs, numbered, told_as}
 use Rattle.dz_diff.specs.Over.{IsOver}
 use Rattle.dz_diff.specs.State.{State, at_place}
 use Rattle.dz_diff.specs.States.{StandsIn, StateValue, state_in}
 use Rattle.dz_diff.specs.Tests.{Polynomials, is_zero}
-use Rattle.dz_diff.proofs.Answers.{bind_ok, told_ok}
+use Rattle.dz_algebra.proofs.Outcomes.{bind_ok, told_ok}
 use Rattle.dz_diff.proofs.Places.{taken}
 use Rattle.dz_step.specs.declared.Role.TheVariants.{Free}
 use Rattle.dz_step.specs.Run.{Ran, run}

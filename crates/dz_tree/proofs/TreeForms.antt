@@ -6,8 +6,8 @@ use Rattle.std.proofs.lemmas.List.{append-nil, append_assoc, drop_all}
 use Rattle.std.proofs.Math.Seq.{drop-cons}
 use Rattle.std.proofs.lemmas.List.Folds.{list_all-append}
 use Rattle.std.proofs.lemmas.Bool.{lt-ltb}
-use Rattle.dz_diff.specs.Lists.{AllOf}
-use Rattle.dz_diff.proofs.Answers.{both}
+use Rattle.dz_monomials.specs.Lists.{AllOf}
+use Rattle.dz_algebra.proofs.Outcomes.{both}
 use Rattle.dz_tree.specs.declared.forming.Expected.{Expected}
 use Rattle.dz_tree.specs.declared.forming.Expected.TheVariants.{NoPair, AnyLine, SomePair}
 use Rattle.dz_move.specs.Moves.{Action, is_fork}

@@ -9,7 +9,7 @@ use Rattle.dz_algebra.specs.Size.{separant_answer}
 use Rattle.dz_algebra.specs.Symbols.{Symbols}
 use Rattle.dz_rank.specs.declared.symbols.Symbol.{Symbol}
 use Rattle.dz_rank.specs.Symbols.{derivative_by}
-use Rattle.dz_diff.specs.Outcome.{◌>>=◌, needs, given, numbered, told_as}
+use Rattle.dz_algebra.specs.Outcome.{◌>>=◌, needs, given, numbered, told_as}
 use Rattle.dz_diff.specs.Tests.{Polynomials, is_zero, same_symbol}
 use Rattle.dz_diff.specs.Operators.{is_proper, quotient}
 use Rattle.dz_diff.specs.Operations.{Setting}

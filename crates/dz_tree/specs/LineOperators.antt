@@ -1,7 +1,7 @@
 -- The operators in lines, and the signature to which they belong.
 use Rattle.std.specs.Prelude.{ℕ, List, []}
 use Rattle.dz_step.specs.declared.Step.{Step}
-use Rattle.dz_diff.specs.Lists.{AllOf}
+use Rattle.dz_monomials.specs.Lists.{AllOf}
 use Rattle.dz_step.specs.StepOperators.{DeriveAlong}
 use Rattle.dz_move.specs.Moves.{steps_of}
 use Rattle.dz_move.specs.Lines.{Line, act, pair, spent, open_wide, open_large}

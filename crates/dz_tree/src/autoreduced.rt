@@ -2,7 +2,7 @@
 
 ghost use Rattle.std.specs.Prelude.{◌≡◌};
 ghost use Rattle.dz_terms.specs.Entries.{IsEntry};
-ghost use Rattle.dz_terms.specs.Ranked.{symbols_under};
+ghost use Rattle.dz_monomials.specs.Ranked.{symbols_under};
 ghost use Rattle.dz_diff.specs.States.{LiveAll, polynomials};
 ghost use Rattle.dz_tree.specs.Chain.{is_autoreduced, is_reducible, reducible_by};
 
@@ -13,10 +13,10 @@ use dz_terms::Entry;
 /// Whether an entry is reducible by another.
 #[tactic(auto, using(crate::proofs::ChainParts::reducible_is))]
 fn is_reducible(ranking: &Ranking, f: &Entry, q: &Entry) -> bool
-    requires f { IsEntry ranking.now f.now.terms.items f.now.degrees.items }
-    requires q { IsEntry ranking.now q.now.terms.items q.now.degrees.items }
-    ensures { result ≡ is_reducible (symbols_under ranking.now) f.now.terms.items
-        q.now.terms.items }
+    requires f { IsEntry ranking.now f.now }
+    requires q { IsEntry ranking.now q.now }
+    ensures { result ≡ is_reducible (symbols_under ranking.now) f.now.terms
+        q.now.terms }
 {
     dz_step::is_reducible(ranking, f, q)
 }
@@ -24,8 +24,8 @@ fn is_reducible(ranking: &Ranking, f: &Entry, q: &Entry) -> bool
 /// Whether the equation of a place is reducible by one of another place. Places count from 1.
 fn is_reducible_by(book: &Book, polys: &[Poly], place: usize, f: &Entry) -> bool
     requires live { LiveAll book.now polys.now }
-    requires f { IsEntry book.now.ranking f.now.terms.items f.now.degrees.items }
-    ensures { result ≡ reducible_by (symbols_under book.now.ranking) place 1 f.now.terms.items
+    requires f { IsEntry book.now.ranking f.now }
+    ensures { result ≡ reducible_by (symbols_under book.now.ranking) place 1 f.now.terms
         (polynomials book.now polys.now) }
 {
     'places: for k in 0..polys.len() {

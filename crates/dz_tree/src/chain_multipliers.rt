@@ -4,7 +4,7 @@ ghost use Rattle.std.specs.Prelude.{◌≡◌, true, Some, IfOk};
 ghost use Rattle.dz_algebra.specs.Parts.{leader};
 ghost use Rattle.dz_algebra.specs.Size.{separant_answer};
 ghost use Rattle.dz_terms.specs.Entries.{IsEntry};
-ghost use Rattle.dz_terms.specs.Ranked.{symbols_under};
+ghost use Rattle.dz_monomials.specs.Ranked.{symbols_under};
 ghost use Rattle.dz_diff.specs.States.{StandsIn, state_in};
 ghost use Rattle.dz_tree.specs.ChainParts.{allowed_if, multiplier_rule, multipliers};
 
@@ -24,10 +24,10 @@ fn separant_permitted(
     lead: Symbol,
 ) -> Result<Option<bool>, AllocError>
     requires stands { StandsIn book.now state.now }
-    requires q { IsEntry book.now.ranking q.now.terms.items q.now.degrees.items }
+    requires q { IsEntry book.now.ranking q.now }
     ensures { IfOk result (λ o. o ≡ allowed_if (symbols_under book.now.ranking)
         (state_in book.now state.now)
-        (separant_answer (symbols_under book.now.ranking) lead q.now.terms.items)) }
+        (separant_answer (symbols_under book.now.ranking) lead q.now.terms)) }
 {
     match multiplier(book.allocator(), book.ranking(), q, lead, Which::Separant) {
         Ok(separant) => Ok(Some(may_multiply(book, state, Role::Free, separant))),
@@ -40,9 +40,9 @@ fn separant_permitted(
 /// separant that fits.
 fn multipliers(book: &Book, state: &State, q: &Entry) -> Result<Option<bool>, AllocError>
     requires stands { StandsIn book.now state.now }
-    requires q { IsEntry book.now.ranking q.now.terms.items q.now.degrees.items }
+    requires q { IsEntry book.now.ranking q.now }
     ensures { IfOk result (λ o. o ≡ multipliers (symbols_under book.now.ranking)
-        (state_in book.now state.now) q.now.terms.items) }
+        (state_in book.now state.now) q.now.terms) }
 {
     let Some(lead) = leader_of(q) else {
         return Ok(None);

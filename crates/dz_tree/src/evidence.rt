@@ -2,10 +2,10 @@
 
 ghost use Rattle.std.specs.Prelude.{◌≡◌, ◌≤◌, ◌+◌, nat_le, true, map, Ok, IfOk, IfErr};
 ghost use Rattle.std.specs.List.{list_all};
-ghost use Rattle.dz_terms.specs.Ranked.{symbols_under};
-ghost use Rattle.dz_diff.specs.Lists.{AllOf};
+ghost use Rattle.dz_monomials.specs.Ranked.{symbols_under};
+ghost use Rattle.dz_monomials.specs.Lists.{AllOf};
 ghost use Rattle.dz_diff.specs.Operations.{setting_of};
-ghost use Rattle.dz_diff.specs.Outcome.{numbered};
+ghost use Rattle.dz_algebra.specs.Outcome.{numbered};
 ghost use Rattle.dz_diff.specs.States.{StandsIn, state_in};
 ghost use Rattle.dz_tree.specs.Chain.{chain_weight, evidence_from, evidence_weight};
 ghost use Rattle.dz_tree.specs.ChainParts.{IsForPair, IsRunWeight, is_within};

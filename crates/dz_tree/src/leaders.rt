@@ -5,7 +5,7 @@ ghost use Rattle.std.specs.List.{list_any};
 ghost use Rattle.dz_algebra.specs.Parts.{leader};
 ghost use Rattle.dz_rank.specs.Rankings.{RankingValue};
 ghost use Rattle.dz_terms.specs.Entries.{IsEntry};
-ghost use Rattle.dz_terms.specs.Ranked.{symbols_under};
+ghost use Rattle.dz_monomials.specs.Ranked.{symbols_under};
 ghost use Rattle.dz_diff.specs.States.{LiveAll, polynomials};
 ghost use Rattle.dz_diff.specs.Tests.{same_symbol};
 ghost use Rattle.dz_tree.specs.Chain.{has_leaders, passes};
@@ -18,9 +18,9 @@ use std::cmp::Ordering;
 
 /// Whether an entry has this leader.
 fn has_leader(ranking: &Ranking, entry: &Entry, lead: Symbol) -> bool
-    requires { IsEntry ranking.now entry.now.terms.items entry.now.degrees.items }
+    requires { IsEntry ranking.now entry.now }
     ensures { result ≡ passes (same_symbol (symbols_under ranking.now) lead)
-        (leader (symbols_under ranking.now) entry.now.terms.items) }
+        (leader (symbols_under ranking.now) entry.now.terms) }
 {
     match leader_of(entry) {
         Some(other) => ranking.compare(lead, other) == Ordering::Equal,

@@ -3,7 +3,7 @@
 ghost use Rattle.std.specs.Prelude.{◌≡◌, map};
 ghost use Rattle.std.specs.List.{list_all};
 ghost use Rattle.dz_poly.specs.Books.{IsKept};
-ghost use Rattle.dz_terms.specs.Ranked.{symbols_under};
+ghost use Rattle.dz_monomials.specs.Ranked.{symbols_under};
 ghost use Rattle.dz_diff.specs.States.{IsStateOf, StandsIn, state_in};
 ghost use Rattle.dz_tree.specs.EvidenceLines.{is_pair_line};
 ghost use Rattle.dz_tree.specs.LineOperators.{HaveOperatorsOf};

@@ -3,7 +3,7 @@
 use crate::alone::Alone;
 use crate::judging::{Judgement, judge};
 use crate::working::Working;
-use dz_case::{CaseStop, cases_of, rule_name};
+use dz_case::{CaseStop, cases_of};
 use dz_check::Verdict;
 use dz_form::limit_word;
 use itoa::Buffer;
@@ -30,7 +30,7 @@ fn write_verdict(into: &mut Vec<u8>, verdict: Verdict, chains: usize) -> Result<
             into.extend_from_slice(b"rejected ")?;
             write_number(into, place)?;
             into.extend_from_slice(b" ")?;
-            into.extend_from_slice(rule_name(rule))
+            into.extend_from_slice(rule.name())
         }
     }
 }
@@ -47,7 +47,7 @@ fn write_alone(into: &mut Vec<u8>, alone: Alone) -> Result<(), AllocError> {
         }
         Alone::Broken(rule) => {
             into.extend_from_slice(b"; alone ")?;
-            into.extend_from_slice(rule_name(rule))
+            into.extend_from_slice(rule.name())
         }
     }
 }

@@ -10,15 +10,15 @@ use Rattle.dz_rank.specs.Rankings.{RankingValue, ranking_cmp}
 use Rattle.dz_rank.specs.Symbols.{is_derivative}
 use Rattle.dz_rank.specs.declared.symbols.Symbol.{Symbol}
 use Rattle.dz_rank.specs.declared.symbols.Symbol.TheVariants.{Independent, Derivative}
-use Rattle.dz_terms.specs.Ranked.{symbols_under}
-use Rattle.dz_terms.proofs.SymbolLaws.{ranking_order}
-use Rattle.dz_diff.specs.Outcome.{numbered, told_as}
-use Rattle.dz_diff.specs.Lists.{AllOf, SomeOf}
+use Rattle.dz_monomials.specs.Ranked.{symbols_under}
+use Rattle.dz_monomials.proofs.SymbolLaws.{ranking_order}
+use Rattle.dz_algebra.specs.Outcome.{numbered, told_as}
+use Rattle.dz_monomials.specs.Lists.{AllOf, SomeOf}
 use Rattle.dz_diff.specs.Tests.{Polynomials, has_unit, has_zero, is_member, is_unit, is_zero, same}
 use Rattle.dz_diff.specs.Operations.{setting_of}
 use Rattle.dz_diff.specs.State.{State, at_place, without_place, put_equation, put_inequation, limit_passed, same_state}
 use Rattle.dz_move.specs.Root.{is_closed}
-use Rattle.dz_diff.proofs.Answers.{bind_ok, told_ok, then_ok, given_then, both, either}
+use Rattle.dz_algebra.proofs.Outcomes.{bind_ok, told_ok, then_ok, given_then, both, either}
 use Rattle.dz_diff.proofs.Goodness.{Good, good_norm}
 use Rattle.dz_diff.proofs.Places.{taken, put_back, put_all, put_parts, at_other, all-append, all_parts}
 use Rattle.dz_diff.proofs.SameTests.{member_is}
@@ -32,7 +32,7 @@ use Rattle.dz_step.proofs.TakenSteps.{good_multiplier}
 use Rattle.dz_pair.specs.Pair.{is_pair, delta_answer}
 use Rattle.dz_pair.proofs.DeltaParts.{delta_parts, good_rest, good_delta}
 use Rattle.dz_move.specs.Fault.{refusal, run_fault}
-use Rattle.dz_step.specs.Division.{divisor_power, quotient_by, is_divided}
+use Rattle.dz_monomials.specs.PowerDivision.{divisor_power, quotient_by, is_divided}
 use Rattle.dz_move.specs.Moves.{Action, reduce, weed, add, divide, split, factor, Done, within, settled, with_equations, with_inequations, forked, moved, reduced, weeded, grown, divided_at, split_at, factored, perform}
 use Rattle.dz_move.proofs.Quotients.{good_quotient}
 use Rattle.dz_zeros.proofs.Meaning.{Meaning, Vanishes, Differs, val, value_difference, vanishes_product, vanishes_operator, norm_vanishes, unit_nonzero, value_quotient, value_symbol, power_zero, one_nonzero}

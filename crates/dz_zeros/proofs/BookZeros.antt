@@ -4,7 +4,7 @@ use Rattle.std.proofs.Common.{ℕ, List}
 use Rattle.dz_algebra.specs.Domain.{DomainLaws, Operations}
 use Rattle.dz_domain.specs.Point.{Coordinates, FitsSignature, IsPoint}
 use Rattle.dz_poly.specs.Books.{BookValue, IsBook, Lives, polynomial}
-use Rattle.dz_diff.specs.Lists.{SomeOf}
+use Rattle.dz_monomials.specs.Lists.{SomeOf}
 use Rattle.dz_diff.specs.Operations.{setting_of}
 use Rattle.dz_diff.specs.Over.{AreOver}
 use Rattle.dz_diff.specs.States.{LiveAll, StandsIn, StateValue, polynomials, state_in}

@@ -19,13 +19,13 @@ use Rattle.dz_algebra.proofs.Values.{collect_value, negated_value, pairs_value, 
 use Rattle.dz_rank.specs.Rankings.{RankingValue, ranking_cmp}
 use Rattle.dz_rank.specs.declared.symbols.Operator.{Operator}
 use Rattle.dz_rank.specs.declared.symbols.Symbol.{Symbol}
-use Rattle.dz_terms.specs.Ranked.{symbol_rate, symbols_under}
-use Rattle.dz_terms.proofs.SymbolLaws.{ranking_order}
+use Rattle.dz_monomials.specs.Ranked.{symbol_rate, symbols_under}
+use Rattle.dz_monomials.proofs.SymbolLaws.{ranking_order}
 use Rattle.dz_diff.specs.Operations.{iterated_answer, derivations_answer, operator_answer, setting_of}
 use Rattle.dz_diff.specs.Tests.{is_unit}
-use Rattle.dz_diff.proofs.Answers.{bind_ok, both}
+use Rattle.dz_algebra.proofs.Outcomes.{bind_ok, both}
 use Rattle.dz_diff.proofs.Goodness.{Good, InRange}
-use Rattle.dz_step.specs.Division.{least_exponent, divisor_power, with_exponent, divided_by, quotient_by}
+use Rattle.dz_monomials.specs.PowerDivision.{least_exponent, divisor_power, with_exponent, divided_by, quotient_by}
 
 -- what a point of a domain gives: values of symbols in a ring in which polynomials vanish as they should
 pub record Meaning (r : RankingValue) (R : Type 0) : Type 0 where

@@ -9,14 +9,14 @@ use Rattle.dz_algebra.proofs.Norms.{value_divided, Divides, divides_more, conten
 use Rattle.dz_rank.specs.Rankings.{RankingValue, ranking_cmp}
 use Rattle.dz_rank.specs.Symbols.{derivative_by}
 use Rattle.dz_rank.specs.declared.symbols.Symbol.{Symbol}
-use Rattle.dz_terms.specs.Ranked.{symbols_under}
-use Rattle.dz_terms.proofs.SymbolLaws.{ranking_order}
-use Rattle.dz_diff.specs.Outcome.{numbered}
-use Rattle.dz_diff.specs.Lists.{AllOf}
+use Rattle.dz_monomials.specs.Ranked.{symbols_under}
+use Rattle.dz_monomials.proofs.SymbolLaws.{ranking_order}
+use Rattle.dz_algebra.specs.Outcome.{numbered}
+use Rattle.dz_monomials.specs.Lists.{AllOf}
 use Rattle.dz_diff.specs.Tests.{Polynomials, is_unit, is_member}
 use Rattle.dz_diff.specs.Operations.{setting_of}
 use Rattle.dz_diff.specs.State.{State, at_place}
-use Rattle.dz_diff.proofs.Answers.{bind_ok, told_ok, either}
+use Rattle.dz_algebra.proofs.Outcomes.{bind_ok, told_ok, either}
 use Rattle.dz_diff.proofs.Goodness.{Good, good_norm}
 use Rattle.dz_diff.proofs.SameTests.{member_is}
 use Rattle.dz_step.specs.declared.Role.{Role}

@@ -13,17 +13,17 @@ use Rattle.dz_rank.specs.Rankings.{RankingValue, ranking_cmp}
 use Rattle.dz_rank.specs.Symbols.{BelongsTo}
 use Rattle.dz_rank.specs.declared.symbols.Symbol.{Symbol}
 use Rattle.dz_rank.specs.declared.symbols.Symbol.TheVariants.{Independent, Derivative}
-use Rattle.dz_terms.specs.Ranked.{symbol_rate, symbols_under}
-use Rattle.dz_terms.proofs.SymbolLaws.{ranking_order}
+use Rattle.dz_monomials.specs.Ranked.{symbol_rate, symbols_under}
+use Rattle.dz_monomials.proofs.SymbolLaws.{ranking_order}
 use Rattle.dz_domain.specs.Point.{Coordinates, IsPoint, FitsSignature, symbol_value}
 use Rattle.dz_domain.proofs.Points.{symbol_is_value}
 use Rattle.dz_domain.proofs.PointValues.{ground_value, value_of_derivative}
-use Rattle.dz_diff.specs.Lists.{AllOf, SomeOf}
+use Rattle.dz_monomials.specs.Lists.{AllOf, SomeOf}
 use Rattle.dz_diff.specs.Tests.{Polynomials}
 use Rattle.dz_diff.specs.Operations.{setting_of}
 use Rattle.dz_diff.specs.State.{State}
 use Rattle.dz_move.specs.Root.{System, is_closed}
-use Rattle.dz_diff.proofs.Answers.{both, is_false}
+use Rattle.dz_algebra.proofs.Outcomes.{both, is_false}
 use Rattle.dz_diff.specs.Over.{AreOver, IsOver}
 use Rattle.dz_diff.proofs.Overs.{all_good, good_over}
 use Rattle.dz_diff.proofs.Goodness.{InRange}

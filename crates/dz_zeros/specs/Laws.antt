@@ -4,9 +4,9 @@ use Rattle.dz_algebra.specs.Domain.{Operations}
 use Rattle.dz_algebra.specs.Polynomial.{Polynomial}
 use Rattle.dz_rank.specs.Rankings.{RankingValue}
 use Rattle.dz_rank.specs.declared.symbols.Symbol.{Symbol}
-use Rattle.dz_terms.specs.Ranked.{symbols_under}
+use Rattle.dz_monomials.specs.Ranked.{symbols_under}
 use Rattle.dz_domain.specs.Point.{Coordinates}
-use Rattle.dz_diff.specs.Lists.{AllOf, SomeOf}
+use Rattle.dz_monomials.specs.Lists.{AllOf, SomeOf}
 use Rattle.dz_diff.specs.Operations.{setting_of}
 use Rattle.dz_diff.specs.State.{State}
 use Rattle.dz_move.specs.Root.{System, is_closed}

@@ -4,7 +4,7 @@
 ghost use Rattle.std.specs.Prelude.{◌↔◌};
 ghost use Rattle.dz_poly.specs.Books.{Lives, polynomial};
 ghost use Rattle.dz_domain.specs.Point.{FitsSignature};
-ghost use Rattle.dz_diff.specs.Lists.{SomeOf};
+ghost use Rattle.dz_monomials.specs.Lists.{SomeOf};
 ghost use Rattle.dz_diff.specs.Operations.{setting_of};
 ghost use Rattle.dz_diff.specs.States.{StandsIn, state_in};
 ghost use Rattle.dz_check.specs.Certified.{IsCertified};

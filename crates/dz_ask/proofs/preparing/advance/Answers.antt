@@ -37,4 +37,4 @@ returns-in-Ok-push_factor-clause-advance c = λ budget f at.
     let s = state_in c.args.book.now c.args.chain.now in
     let n : IsNextTurn (setting_of r) s c.args.working.now.terms.items (Some (c.in-Some.index, c.in-Some.step)) = subst (λ l. IsNextTurn (setting_of r) s l (Some (c.in-Some.index, c.in-Some.step))) c.deref.ensures.value (subst (IsNextTurn (setting_of r) s c.deref.result.now) c.in-Some.is c.in-Ok.ensures.turn) in
     let v : Working = record { factors = c.push_factor.new.factors; terms = c.in-Ok-made.after.terms; left = c.in-Ok-made.left } in
-    moves r s budget f c.args.working.now at c.in-Some.index n.0 c.in-Some.step n.1 n.2 n.3 v c.in-Ok-made.after.factor.terms.items (c.in-Ok-made.ensures.ok n.0 n.2) (c.in-Ok-push_factor.ensures.pushed r) c.in-Ok-made.ensures.left
+    moves r s budget f c.args.working.now at c.in-Some.index n.0 c.in-Some.step n.1 n.2 n.3 v c.in-Ok-made.after.factor.terms (c.in-Ok-made.ensures.ok n.0 n.2) (c.in-Ok-push_factor.ensures.pushed r) c.in-Ok-made.ensures.left

@@ -17,4 +17,4 @@ stop_of-requires c =
     next_turn_stop book.ranking s (list_regular book c.args.chain.now.equations c.opened.ensures c.requires.stands.equations_live) c.args.working.now.terms.items c.args.index c.args.step c.requires.terms n c.in-Err.stop h
 
 pub returns-in-None-clause-stopped : goal.returns-in-None-clause-stopped
-returns-in-None-clause-stopped c = λ t e. (refl, ((c.in-Ok.after.factor.terms.items, terms_in c.in-Ok.after.terms.items), (rw c.deref.ensures.value at c.in-Ok.ensures.ok) t e, rw c.deref-in-Ok.ensures.value at c.in-None.ensures.passed))
+returns-in-None-clause-stopped c = λ t e. (refl, ((c.in-Ok.after.factor.terms, terms_in c.in-Ok.after.terms.items), (rw c.deref.ensures.value at c.in-Ok.ensures.ok) t e, rw c.deref-in-Ok.ensures.value at c.in-None.ensures.passed))

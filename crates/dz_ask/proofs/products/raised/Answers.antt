@@ -1,6 +1,6 @@
 use Rattle.std.proofs.Common.{◌∙◌, ◌++◌, ◌-◌, length, take, drop, inr, sym, ap, rules, arith}
 use Rattle.std.proofs.lemmas.Grind.{common_steps}
-use Rattle.dz_terms.specs.Stops.{refusal_of}
+use Rattle.dz_monomials.specs.Stops.{refusal_of}
 use Rattle.dz_ask.specs.Products.{raised_product}
 use Rattle.dz_ask.proofs.RaisedProducts.{first_before, first_here, first_high, none_left}
 use Rattle.dz_ask.proofs.products.raised.Goals as goal

@@ -4,7 +4,7 @@ use Rattle.std.specs.declared.cmp.Ordering.TheVariants.{Equal}
 use Rattle.dz_algebra.specs.Size.{sum_answer}
 use Rattle.dz_ask.specs.Products.{product_cmp}
 use Rattle.std.proofs.Common.{rules, ◌≡◌, ◌<◌, ◌≤◌, ◌∙◌, Ok, length, slice_index_or, arith, ap, sym, subst}
-use Rattle.dz_terms.specs.Ranked.{symbols_under}
+use Rattle.dz_monomials.specs.Ranked.{symbols_under}
 use Rattle.dz_ask.specs.Turns.{added}
 use Rattle.dz_ask.specs.Working.{AreEntries, terms_in}
 use Rattle.dz_ask.proofs.AddedTerms.{terms_set, entries_inserted, entries_set, added_here}
@@ -39,6 +39,6 @@ returns-in-Equal-clause-ok c =
     let low : c.loop-i.i < length ts = omega (arith, c.loop-i-test.true, c.len-i-end.ensures) in
     let there : t ≡ slice_index_or ts c.loop-i.i t = c.index_mut.ensures.value ∙ ap (λ l. slice_index_or l c.loop-i.i t) same in
     let order : product_cmp c.args.product.items t.product.items ≡ Equal = first_of (search rules, grind (arith, common_steps)) in
-    let sum : sum_answer (symbols_under r) t.coefficient.terms.items c.args.shift.now.terms.items ≡ Ok c.in_ok-here-in-Equal.here.terms.items = first_of (search rules, grind (arith, common_steps)) in
-    added_here r c.args.product.items c.args.shift.now.terms.items ts (added (symbols_under r) c.args.product.items c.args.shift.now.terms.items (terms_in ts)) c.loop-i.i c.loop-i.invariant.so_far t low there c.in_ok-here-in-Equal.here.terms.items order sum
+    let sum : sum_answer (symbols_under r) t.coefficient.terms c.args.shift.now.terms ≡ Ok c.in_ok-here-in-Equal.here.terms = first_of (search rules, grind (arith, common_steps)) in
+    added_here r c.args.product.items c.args.shift.now.terms ts (added (symbols_under r) c.args.product.items c.args.shift.now.terms (terms_in ts)) c.loop-i.i c.loop-i.invariant.so_far t low there c.in_ok-here-in-Equal.here.terms order sum
     ∙ ap Ok (sym (ap (λ l. terms_in (slice_set l c.loop-i.i (record { product = t.product; coefficient = c.in_ok-here-in-Equal.here }))) same ∙ terms_set ts c.loop-i.i (record { product = t.product; coefficient = c.in_ok-here-in-Equal.here }) low))

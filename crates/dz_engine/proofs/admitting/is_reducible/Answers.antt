@@ -79,5 +79,5 @@ returns-clause-answer c =
     let n = polynomials_length book ps in
     let inside : c.args.k < length ps = omega (arith, l, n, c.requires.inside) in
     let there : c.index-equations-k.result ≡ slice_index_or ps c.args.k c.index-equations-k.result = c.index-equations-k.is ∙ ap (λ ps. slice_index_or ps c.args.k c.index-equations-k.result) c.equations.ensures.items in
-    let here : c.entry-entry.result.now.terms.items ≡ slice_index_or (polynomials book ps) c.args.k [] = c.entry-entry.ensures.value ∙ ap (polynomial book) there ∙ sym (polynomial_here book ps c.args.k c.index-equations-k.result inside) in
+    let here : c.entry-entry.result.now.terms ≡ slice_index_or (polynomials book ps) c.args.k [] = c.entry-entry.ensures.value ∙ ap (polynomial book) there ∙ sym (polynomial_here book ps c.args.k c.index-equations-k.result inside) in
     c.is_some.ensures ∙ ap is_some (c.in_ok-next.ensures.step ∙ ap (next_step g s (Equation (c.args.k + 1))) here)

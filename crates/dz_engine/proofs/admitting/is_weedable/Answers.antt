@@ -23,6 +23,6 @@ returns-then-is_none-clause-answer c =
     let ps = c.args.state.now.inequations in
     let k = c.args.k in
     let there : c.index-inequations-k.result ≡ slice_index_or ps k c.index-inequations-k.result = c.index-inequations-k.is ∙ ap (λ ps. slice_index_or ps k c.index-inequations-k.result) c.inequations.ensures.items in
-    let here : c.entry-entry.result.now.terms.items ≡ slice_index_or (polynomials book ps) k [] = c.entry-entry.ensures.value ∙ ap (polynomial book) there ∙ sym (polynomial_here book ps k c.index-inequations-k.result c.requires.inside) in
-    let none : next_step g s Free c.entry-entry.result.now.terms.items ≡ None = sym c.in_ok-next_step_entry.ensures.step ∙ none_is c.in_ok-next_step_entry.field-0 (c.is_none.ensures ∙ ap not c.if-is_none.true) in
+    let here : c.entry-entry.result.now.terms ≡ slice_index_or (polynomials book ps) k [] = c.entry-entry.ensures.value ∙ ap (polynomial book) there ∙ sym (polynomial_here book ps k c.index-inequations-k.result c.requires.inside) in
+    let none : next_step g s Free c.entry-entry.result.now.terms ≡ None = sym c.in_ok-next_step_entry.ensures.step ∙ none_is c.in_ok-next_step_entry.field-0 (c.is_none.ensures ∙ ap not c.if-is_none.true) in
     sym (ap is_some (no_less g s (k + 1) (slice_index_or (polynomials book ps) k []) (ap (next_step g s Free) (sym here) ∙ none)))

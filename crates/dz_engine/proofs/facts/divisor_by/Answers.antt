@@ -1,5 +1,5 @@
 use Rattle.std.proofs.Common.{◌∙◌, ap, subst, sym}
-use Rattle.dz_terms.specs.Ranked.{symbols_under}
+use Rattle.dz_monomials.specs.Ranked.{symbols_under}
 use Rattle.dz_poly.specs.Books.{polynomial}
 use Rattle.dz_diff.specs.States.{polynomials, state_in}
 use Rattle.dz_step.specs.Divisors.{AreAnswersOf, IsKeptOf}
@@ -19,5 +19,5 @@ returns c = λ place.
       initial_is = λ l e. c.is_granted-initial.ensures (multiplier_answer g Initial l q) (c.requires.known.facts.initial_is l e) ∙ ap (λ ps. permitted_if g (polynomials book ps) (multiplier_answer g Initial l q)) c.inequations.ensures.items;
       separant_is = λ l e. c.is_granted-separant.ensures (multiplier_answer g Separant l q) (c.requires.known.facts.separant_is l e) ∙ ap (λ ps. permitted_if g (polynomials book ps) (multiplier_answer g Separant l q)) c.inequations-2.ensures.items;
     } in
-    let b = subst (λ r. AreAnswersOf r hs c.entry.result.now.terms.items c.is_granted-initial.result c.is_granted-separant.result) (sym c.ranking.ensures) (subst (λ q. AreAnswersOf r hs q c.is_granted-initial.result c.is_granted-separant.result) (sym c.entry.ensures.value) a) in
-    subst (λ q. IsKeptOf r hs Free place q c.asked_divisor.result) c.entry.ensures.value (subst (λ r. IsKeptOf r hs Free place c.entry.result.now.terms.items c.asked_divisor.result) c.ranking.ensures (c.asked_divisor.ensures hs place b))
+    let b = subst (λ r. AreAnswersOf r hs c.entry.result.now.terms c.is_granted-initial.result c.is_granted-separant.result) (sym c.ranking.ensures) (subst (λ q. AreAnswersOf r hs q c.is_granted-initial.result c.is_granted-separant.result) (sym c.entry.ensures.value) a) in
+    subst (λ q. IsKeptOf r hs Free place q c.asked_divisor.result) c.entry.ensures.value (subst (λ r. IsKeptOf r hs Free place c.entry.result.now.terms c.asked_divisor.result) c.ranking.ensures (c.asked_divisor.ensures hs place b))

@@ -1,5 +1,5 @@
 use Rattle.std.proofs.Common.{◌≡◌, ◌∙◌, ap, arith, subst, sym, length, Some}
-use Rattle.dz_terms.specs.Stops.{IsStop}
+use Rattle.dz_monomials.specs.Stops.{IsStop}
 use Rattle.dz_diff.specs.Operations.{setting_of}
 use Rattle.dz_diff.specs.State.{at_place}
 use Rattle.dz_diff.specs.States.{state_in}

@@ -1,5 +1,5 @@
 use Rattle.std.proofs.Common.{◌∙◌, sym}
-use Rattle.dz_terms.specs.Ranked.{symbols_under}
+use Rattle.dz_monomials.specs.Ranked.{symbols_under}
 use Rattle.dz_diff.specs.States.{state_in}
 use Rattle.dz_step.specs.declared.Which.TheVariants.{Initial, Separant}
 use Rattle.dz_step.specs.Step.{multiplier_answer}
@@ -10,7 +10,7 @@ pub returns-then-is_some : goal.returns-then-is_some
 returns-then-is_some c =
     let book = c.args.book.now in
     let g = symbols_under book.ranking in
-    let q = c.args.entry.now.terms.items in
+    let q = c.args.entry.now.terms in
     let l = c.in-Some.field-0 in
     let leads = sym (c.leader_of.ensures book.ranking c.requires.entry) ∙ c.in-Some.is in
     let first = c.to_split_on-initial.ensures (multiplier_answer g Initial l q) (c.requires.facts.initial_is l leads) in
@@ -20,7 +20,7 @@ pub returns : goal.returns
 returns c =
     let book = c.args.book.now in
     let g = symbols_under book.ranking in
-    let q = c.args.entry.now.terms.items in
+    let q = c.args.entry.now.terms in
     let l = c.in-Some.field-0 in
     let leads = sym (c.leader_of.ensures book.ranking c.requires.entry) ∙ c.in-Some.is in
     let first = c.to_split_on-initial.ensures (multiplier_answer g Initial l q) (c.requires.facts.initial_is l leads) in

@@ -1,5 +1,5 @@
 use Rattle.std.proofs.Common.{◌≡◌, [], Some, drop, length}
-use Rattle.dz_terms.specs.Ranked.{symbols_under}
+use Rattle.dz_monomials.specs.Ranked.{symbols_under}
 use Rattle.dz_syntax.specs.Postfix.{values_after}
 use Rattle.dz_form.specs.Values.{AreEntries, steps_answer, values_of}
 use Rattle.dz_form.proofs.expansion.value_of.Given as goal

@@ -1,5 +1,5 @@
 use Rattle.std.proofs.Common.{Ok}
-use Rattle.dz_terms.specs.Ranked.{symbols_under}
+use Rattle.dz_monomials.specs.Ranked.{symbols_under}
 use Rattle.dz_form.proofs.PolynomialTexts.{refusal_read, text_gives, text_refused, value_read}
 use Rattle.dz_form.proofs.polynomials.read_poly.Goals as goal
 
@@ -15,13 +15,13 @@ returns-in_err-item-clause-canonical c =
 pub returns-in_err-poly-clause-exact : goal.returns-in_err-poly-clause-exact
 returns-in_err-poly-clause-exact c =
     let r = c.from_residual-in_err-poly in
-    refusal_read c.expand.new.book (symbols_under c.args.book.now.ranking) c.args.names.now c.args.bytes.now c.in_ok-item.item c.in_err-poly.field-0.0 r.result r.ensures.1 c.in_ok-item.ensures.exact c.in_err-poly.ensures.value
+    refusal_read c.expand.new.book (symbols_under c.args.book.now.ranking) c.args.names.now c.args.bytes.now c.in_ok-item.item c.in_err-poly.field-0.0 r.result r.ensures.1 c.in_ok-item.ensures.exact c.in_err-poly.ensures.why
 
 pub returns-in_err-poly-clause-canonical : goal.returns-in_err-poly-clause-canonical
 returns-in_err-poly-clause-canonical c =
     let r = c.from_residual-in_err-poly in
     text_gives c.args.names.now c.args.book.now.ranking c.opened.ensures c.requires c.expand.new.book r.result c.args.bytes.now
-    (refusal_read c.expand.new.book (symbols_under c.args.book.now.ranking) c.args.names.now c.args.bytes.now c.in_ok-item.item c.in_err-poly.field-0.0 r.result r.ensures.1 c.in_ok-item.ensures.exact c.in_err-poly.ensures.value)
+    (refusal_read c.expand.new.book (symbols_under c.args.book.now.ranking) c.args.names.now c.args.bytes.now c.in_ok-item.item c.in_err-poly.field-0.0 r.result r.ensures.1 c.in_ok-item.ensures.exact c.in_err-poly.ensures.why)
 
 pub returns-clause-exact : goal.returns-clause-exact
 returns-clause-exact c =

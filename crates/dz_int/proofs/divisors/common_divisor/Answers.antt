@@ -1,6 +1,6 @@
 use Rattle.std.proofs.Common.{sym, subst}
 use Rattle.std.specs.Int.{IsGcd}
-use Rattle.dz_int.proofs.Coprime.{gcd_is}
+use Rattle.dz_algebra.proofs.Divisors.{gcd_is}
 use Rattle.dz_int.proofs.divisors.common_divisor.Goals as goal
 
 pub returns : goal.returns

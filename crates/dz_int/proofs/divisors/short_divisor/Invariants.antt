@@ -1,5 +1,5 @@
 use Rattle.std.proofs.Common.{◌≡◌}
-use Rattle.dz_int.specs.Euclid.{gcd}
+use Rattle.dz_algebra.specs.Norm.{gcd}
 use Rattle.dz_int.proofs.divisors.short_divisor.Given as goal
 
 abbrev pub invariant-loop-y : goal.invariant-loop-y

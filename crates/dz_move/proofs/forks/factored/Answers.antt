@@ -4,11 +4,11 @@ use Rattle.dz_algebra.specs.Polynomial.{Polynomial, symbol_polynomial}
 use Rattle.dz_rank.specs.Rankings.{RankingValue, ranking_cmp}
 use Rattle.dz_rank.specs.declared.symbols.Symbol.{Symbol}
 use Rattle.dz_poly.specs.Books.{polynomial}
-use Rattle.dz_terms.specs.declared.entry.Entry.{Entry}
-use Rattle.dz_terms.specs.Ranked.{symbols_under}
+use Rattle.dz_terms.specs.Entries.{EntryValue}
+use Rattle.dz_monomials.specs.Ranked.{symbols_under}
 use Rattle.dz_diff.specs.Operations.{setting_of}
 use Rattle.dz_diff.specs.States.{state_in}
-use Rattle.dz_step.specs.Division.{is_divided, quotient_by}
+use Rattle.dz_monomials.specs.PowerDivision.{is_divided, quotient_by}
 use Rattle.dz_move.specs.declared.Rule.TheVariants as rules
 use Rattle.dz_move.specs.Moves.{settled}
 use Rattle.dz_move.specs.Parts.{factor_states}
@@ -37,7 +37,7 @@ returns-in_default-divided-clause-refused c =
     let book = c.args.book.now in
     let there = polynomial_at book c.args.state.now.equations _ c.args.place _ c.equations.ensures.items c.member_at.ensures c.in-Some.p c.in-Some.is in
     broken_stop _ 0 rules.Symbol _ c.broken-in_default-divided.ensures (factored_no_divisor (setting_of book.ranking) (state_in book c.args.state.now) c.args.place c.args.v _ there
-    (ap (is_divided (ranking_cmp book.ranking) c.args.v) (sym c.entry.ensures.value) ∙ ap (λ r. is_divided (ranking_cmp r) c.args.v c.entry.result.now.terms.items) (sym c.ranking.ensures) ∙ sym c.in_ok-divided.ensures.divided ∙ ap is_some c.in_default-divided.is))
+    (ap (is_divided (ranking_cmp book.ranking) c.args.v) (sym c.entry.ensures.value) ∙ ap (λ r. is_divided (ranking_cmp r) c.args.v c.entry.result.now.terms) (sym c.ranking.ensures) ∙ sym c.in_ok-divided.ensures.divided ∙ ap is_some c.in_default-divided.is))
 
 pub factor_drafts-requires-clause-counts : goal.factor_drafts-requires-clause-counts
 factor_drafts-requires-clause-counts c = (counts_at c.args.book.now c.args.state.now.equations _ c.args.place _ c.equations.ensures.items c.member_at.ensures c.in-Some.p c.in-Some.is).0
@@ -52,11 +52,11 @@ factor_drafts-requires-clause-symbol c =
     let ranked : c.ranking.result.now ≡ book.ranking = c.ranking.ensures in
     let ranked2 : c.ranking-2.result.now ≡ book.ranking = c.ranking-2.ensures in
     let few' : book.ranking.signature.independents ≤ 4 = subst (λ (r : RankingValue). r.signature.independents ≤ 4) ranked2 few in
-    let divides : is_divided (ranking_cmp book.ranking) c.args.v c.entry.result.now.terms.items ≡ true =
-    ap (λ r. is_divided (ranking_cmp r) c.args.v c.entry.result.now.terms.items) (sym ranked) ∙ sym c.in_ok-divided.ensures.divided ∙ ap is_some c.in-Some-divided.is in
+    let divides : is_divided (ranking_cmp book.ranking) c.args.v c.entry.result.now.terms ≡ true =
+    ap (λ r. is_divided (ranking_cmp r) c.args.v c.entry.result.now.terms) (sym ranked) ∙ sym c.in_ok-divided.ensures.divided ∙ ap is_some c.in-Some-divided.is in
     c.in_ok-symbol.ensures.entry book.ranking
-    (divisor_belongs_to book.ranking few' c.entry.result.now.terms.items c.entry.result.now.degrees.items c.entry.ensures.entry c.args.v divides)
-    (divisor_low book.ranking few' c.entry.result.now.terms.items c.entry.result.now.degrees.items c.entry.ensures.entry c.args.v divides)
+    (divisor_belongs_to book.ranking few' c.entry.result.now.terms c.entry.result.now.degrees c.entry.ensures.entry c.args.v divides)
+    (divisor_low book.ranking few' c.entry.result.now.terms c.entry.result.now.degrees c.entry.ensures.entry c.args.v divides)
 
 pub factor_drafts-requires-clause-factor : goal.factor_drafts-requires-clause-factor
 factor_drafts-requires-clause-factor c =
@@ -65,11 +65,11 @@ factor_drafts-requires-clause-factor c =
     let ranked : c.ranking.result.now ≡ book.ranking = c.ranking.ensures in
     let ranked2 : c.ranking-2.result.now ≡ book.ranking = c.ranking-2.ensures in
     let few' : book.ranking.signature.independents ≤ 4 = subst (λ (r : RankingValue). r.signature.independents ≤ 4) ranked2 few in
-    let divides : is_divided (ranking_cmp book.ranking) c.args.v c.entry.result.now.terms.items ≡ true =
-    ap (λ r. is_divided (ranking_cmp r) c.args.v c.entry.result.now.terms.items) (sym ranked) ∙ sym c.in_ok-divided.ensures.divided ∙ ap is_some c.in-Some-divided.is in
+    let divides : is_divided (ranking_cmp book.ranking) c.args.v c.entry.result.now.terms ≡ true =
+    ap (λ r. is_divided (ranking_cmp r) c.args.v c.entry.result.now.terms) (sym ranked) ∙ sym c.in_ok-divided.ensures.divided ∙ ap is_some c.in-Some-divided.is in
     c.in_ok-factor.ensures.entry book.ranking
-    (divisor_belongs_to book.ranking few' c.entry.result.now.terms.items c.entry.result.now.degrees.items c.entry.ensures.entry c.args.v divides)
-    (divisor_low book.ranking few' c.entry.result.now.terms.items c.entry.result.now.degrees.items c.entry.ensures.entry c.args.v divides)
+    (divisor_belongs_to book.ranking few' c.entry.result.now.terms c.entry.result.now.degrees c.entry.ensures.entry c.args.v divides)
+    (divisor_low book.ranking few' c.entry.result.now.terms c.entry.result.now.degrees c.entry.ensures.entry c.args.v divides)
 
 pub returns-clause-ok : goal.returns-clause-ok
 returns-clause-ok c =
@@ -79,20 +79,20 @@ returns-clause-ok c =
     let there = polynomial_at book c.args.state.now.equations _ c.args.place _ c.equations.ensures.items c.member_at.ensures c.in-Some.p c.in-Some.is in
     let r = book.ranking in
     let g = symbols_under r in
-    let q = c.in-Some-divided.quotient.terms.items in
+    let q = c.in-Some-divided.quotient.terms in
     let p = polynomial book c.in-Some.p in
     let ranked : c.ranking.result.now ≡ r = c.ranking.ensures in
     let divides : is_divided (ranking_cmp r) c.args.v p ≡ true =
-    ap (is_divided (ranking_cmp r) c.args.v) (sym c.entry.ensures.value) ∙ ap (λ r. is_divided (ranking_cmp r) c.args.v c.entry.result.now.terms.items) (sym ranked) ∙ sym c.in_ok-divided.ensures.divided ∙ ap is_some c.in-Some-divided.is in
+    ap (is_divided (ranking_cmp r) c.args.v) (sym c.entry.ensures.value) ∙ ap (λ r. is_divided (ranking_cmp r) c.args.v c.entry.result.now.terms) (sym ranked) ∙ sym c.in_ok-divided.ensures.divided ∙ ap is_some c.in-Some-divided.is in
     let is : q ≡ quotient_by (ranking_cmp r) c.args.v p =
-    subst (λ (o : Option Entry). IfSome o (λ all. all.terms.items ≡ quotient_by (ranking_cmp c.ranking.result.now) c.args.v c.entry.result.now.terms.items)) c.in-Some-divided.is c.in_ok-divided.ensures.terms
-    ∙ ap (λ r. quotient_by (ranking_cmp r) c.args.v c.entry.result.now.terms.items) ranked ∙ ap (quotient_by (ranking_cmp r) c.args.v) c.entry.ensures.value in
+    subst (λ (o : Option EntryValue). IfSome o (λ all. all.terms ≡ quotient_by (ranking_cmp c.ranking.result.now) c.args.v c.entry.result.now.terms)) c.in-Some-divided.is c.in_ok-divided.ensures.terms
+    ∙ ap (λ r. quotient_by (ranking_cmp r) c.args.v c.entry.result.now.terms) ranked ∙ ap (quotient_by (ranking_cmp r) c.args.v) c.entry.ensures.value in
     record {
       weight = 1 + length (quotient_by (ranking_cmp r) c.args.v p);
       is = factored_by_symbol (setting_of r) s c.args.place c.args.v p there (sym c.in_ok-may_be_factor.ensures ∙ c.if-not-branch.false) divides
           ∙ ap (λ (x : Polynomial Symbol). settled 0 (factor_states g s c.args.place x (symbol_polynomial c.args.v) (symbol_polynomial c.args.v)) (1 + length (quotient_by (ranking_cmp r) c.args.v p))) (sym is)
           ∙ ap₂ (λ (x y : Polynomial Symbol). settled 0 (factor_states g s c.args.place q x y) (1 + length (quotient_by (ranking_cmp r) c.args.v p))) (sym c.in_ok-symbol.ensures.terms) (sym c.in_ok-factor.ensures.terms)
-          ∙ ap (λ ss. settled 0 ss (1 + length (quotient_by (ranking_cmp r) c.args.v p))) (sym c.in_ok-factor_drafts.ensures.drafts);
+          ∙ ap (λ ss. settled 0 ss (1 + length (quotient_by (ranking_cmp r) c.args.v p))) (sym c.in_ok-factor_drafts.ensures.drafts.are);
       weighs = let a = ap length is in omega (arith, a, c.term_count.ensures, c.saturating_add-weight.ensures);
-      stand = c.in_ok-factor_drafts.ensures.stand;
+      stand = c.in_ok-factor_drafts.ensures.drafts.stand;
     }

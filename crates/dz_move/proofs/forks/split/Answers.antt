@@ -1,10 +1,10 @@
 use Rattle.std.proofs.Common.{◌≡◌, ◌+◌, ◌∙◌, ◌++◌, [], ◌∷◌, ℕ, suc, List, length, ap, ap₂, sym, subst, arith}
 use Rattle.std.proofs.lemmas.Result.{err_from_is_err_and}
-use Rattle.dz_terms.specs.Ranked.{symbols_under}
+use Rattle.dz_monomials.specs.Ranked.{symbols_under}
 use Rattle.dz_diff.specs.Operations.{setting_of}
 use Rattle.dz_algebra.specs.Polynomial.{Polynomial}
 use Rattle.dz_rank.specs.declared.symbols.Symbol.{Symbol}
-use Rattle.dz_terms.specs.Stops.{IsStop}
+use Rattle.dz_monomials.specs.Stops.{IsStop}
 use Rattle.dz_diff.specs.State.{State}
 use Rattle.dz_move.proofs.NewNorms.{norm_ground}
 use Rattle.dz_diff.specs.States.{state_in}
@@ -40,13 +40,13 @@ returns-in_err-multiplier-clause-refused c =
     (split_refused (setting_of book.ranking) (state_in book c.args.state.now) c.args.place c.args.which _ there c.in-Some-leader_of.lead
     (ap (leader (symbols_under book.ranking)) (sym c.entry.ensures.value) ∙ sym (c.leader_of.ensures book.ranking c.entry.ensures.entry) ∙ c.in-Some-leader_of.is) _
     (subst (λ (p : Polynomial Symbol). IsStop c.in_err-multiplier.field-0.0 (multiplier_answer (symbols_under book.ranking) c.args.which c.in-Some-leader_of.lead p)) c.entry-2.ensures.value
-    (subst (λ r. IsStop c.in_err-multiplier.field-0.0 (multiplier_answer (symbols_under r) c.args.which c.in-Some-leader_of.lead c.entry-2.result.now.terms.items)) c.ranking.ensures c.in_err-multiplier.ensures.refused)))
+    (subst (λ r. IsStop c.in_err-multiplier.field-0.0 (multiplier_answer (symbols_under r) c.args.which c.in-Some-leader_of.lead c.entry-2.result.now.terms)) c.ranking.ensures c.in_err-multiplier.ensures)))
 
 pub returns-then-not-is_new-clause-refused : goal.returns-then-not-is_new-clause-refused
 returns-then-not-is_new-clause-refused c =
     let book = c.args.book.now in
     let there = polynomial_at book c.args.state.now.equations _ c.args.place _ c.equations.ensures.items c.member_at.ensures c.in-Some.p c.in-Some.is in
-    let m = c.in_ok-multiplier.multiplier.terms.items in
+    let m = c.in_ok-multiplier.multiplier.terms in
     broken_stop _ 0 rules.Fork _ c.broken-then-not-is_new.ensures
     (split_not_new (setting_of book.ranking) (state_in book c.args.state.now) c.args.place c.args.which _ there c.in-Some-leader_of.lead
     (ap (leader (symbols_under book.ranking)) (sym c.entry.ensures.value) ∙ sym (c.leader_of.ensures book.ranking c.entry.ensures.entry) ∙ c.in-Some-leader_of.is) m
@@ -59,8 +59,8 @@ returns-clause-ok c =
     let new = c.keep.new.self in
     let s = state_in book c.args.state.now in
     let there = polynomial_at book c.args.state.now.equations _ c.args.place _ c.equations.ensures.items c.member_at.ensures c.in-Some.p c.in-Some.is in
-    let m = c.in_ok-multiplier.multiplier.terms.items in
-    let h = c.into_norm-norm.result.terms.items in
+    let m = c.in_ok-multiplier.multiplier.terms in
+    let h = c.into_norm-norm.result.terms in
     let keeps = c.in_ok-norm.ensures.kept in
     let p = c.in_ok-norm.norm in
     let stands = c.requires.stands in

@@ -1,16 +1,16 @@
 use Rattle.std.proofs.Common.{◌≡◌, ◌≤◌, Option, ◌+◌, ◌∙◌, [], ◌∷◌, ℕ, List, true, length, ap, sym, subst, arith}
 use Rattle.std.specs.Prelude.{IfSome, is_some}
 use Rattle.dz_poly.specs.Books.{polynomial}
-use Rattle.dz_terms.specs.Ranked.{symbols_under}
+use Rattle.dz_monomials.specs.Ranked.{symbols_under}
 use Rattle.dz_diff.specs.Operations.{setting_of}
 use Rattle.dz_diff.specs.State.{State}
-use Rattle.dz_terms.specs.declared.entry.Entry.{Entry}
+use Rattle.dz_terms.specs.Entries.{EntryValue}
 use Rattle.dz_diff.specs.States.{MeanAll, polynomials, state_in}
 use Rattle.dz_algebra.specs.Polynomial.{symbol_polynomial}
 use Rattle.dz_rank.specs.Rankings.{ranking_cmp}
 use Rattle.dz_diff.specs.State.{put_equation}
 use Rattle.dz_diff.specs.Tests.{is_member}
-use Rattle.dz_step.specs.Division.{is_divided, quotient_by}
+use Rattle.dz_monomials.specs.PowerDivision.{is_divided, quotient_by}
 use Rattle.dz_move.specs.declared.Rule.TheVariants as rules
 use Rattle.dz_move.specs.declared.roots.Members.TheVariants.{Equations}
 use Rattle.dz_move.specs.Members.{put_at}
@@ -38,7 +38,7 @@ returns-in_default-divided-clause-refused c =
     let book = c.args.book.now in
     let there = polynomial_at book c.args.state.now.equations _ c.args.place _ c.equations.ensures.items c.member_at.ensures c.in-Some.p c.in-Some.is in
     broken_stop _ 0 rules.Symbol _ c.broken-in_default-divided.ensures (divided_no_divisor (setting_of book.ranking) (state_in book c.args.state.now) c.args.place c.args.v _ there
-    (ap (is_divided (ranking_cmp book.ranking) c.args.v) (sym c.entry.ensures.value) ∙ ap (λ r. is_divided (ranking_cmp r) c.args.v c.entry.result.now.terms.items) (sym c.ranking.ensures) ∙ sym c.in_ok-divided.ensures.divided ∙ ap is_some c.in_default-divided.is))
+    (ap (is_divided (ranking_cmp book.ranking) c.args.v) (sym c.entry.ensures.value) ∙ ap (λ r. is_divided (ranking_cmp r) c.args.v c.entry.result.now.terms) (sym c.ranking.ensures) ∙ sym c.in_ok-divided.ensures.divided ∙ ap is_some c.in_default-divided.is))
 
 pub put-requires-clause-counts : goal.put-requires-clause-counts
 put-requires-clause-counts c = (counts_at c.args.book.now c.args.state.now.equations _ c.args.place _ c.equations.ensures.items c.member_at.ensures c.in-Some.p c.in-Some.is).0
@@ -53,13 +53,13 @@ returns-clause-ok c =
     let s = state_in book c.args.state.now in
     let there = polynomial_at book c.args.state.now.equations _ c.args.place _ c.equations.ensures.items c.member_at.ensures c.in-Some.p c.in-Some.is in
     let r = book.ranking in
-    let q = c.in-Some-divided.quotient.terms.items in
+    let q = c.in-Some-divided.quotient.terms in
     let ranked : c.ranking.result.now ≡ r = c.ranking.ensures in
     let divides : is_divided (ranking_cmp r) c.args.v (polynomial book c.in-Some.p) ≡ true =
-    ap (is_divided (ranking_cmp r) c.args.v) (sym c.entry.ensures.value) ∙ ap (λ r. is_divided (ranking_cmp r) c.args.v c.entry.result.now.terms.items) (sym ranked) ∙ sym c.in_ok-divided.ensures.divided ∙ ap is_some c.in-Some-divided.is in
+    ap (is_divided (ranking_cmp r) c.args.v) (sym c.entry.ensures.value) ∙ ap (λ r. is_divided (ranking_cmp r) c.args.v c.entry.result.now.terms) (sym ranked) ∙ sym c.in_ok-divided.ensures.divided ∙ ap is_some c.in-Some-divided.is in
     let is : q ≡ quotient_by (ranking_cmp r) c.args.v (polynomial book c.in-Some.p) =
-    subst (λ (o : Option Entry). IfSome o (λ all. all.terms.items ≡ quotient_by (ranking_cmp c.ranking.result.now) c.args.v c.entry.result.now.terms.items)) c.in-Some-divided.is c.in_ok-divided.ensures.terms
-    ∙ ap (λ r. quotient_by (ranking_cmp r) c.args.v c.entry.result.now.terms.items) ranked ∙ ap (quotient_by (ranking_cmp r) c.args.v) c.entry.ensures.value in
+    subst (λ (o : Option EntryValue). IfSome o (λ all. all.terms ≡ quotient_by (ranking_cmp c.ranking.result.now) c.args.v c.entry.result.now.terms)) c.in-Some-divided.is c.in_ok-divided.ensures.terms
+    ∙ ap (λ r. quotient_by (ranking_cmp r) c.args.v c.entry.result.now.terms) ranked ∙ ap (quotient_by (ranking_cmp r) c.args.v) c.entry.ensures.value in
     let put : MeanAll new c.in_ok-put.field-0.items (put_equation (symbols_under r) c.args.place q s.equations) =
     subst (λ (ps : List ℕ). MeanAll new c.in_ok-put.field-0.items (put_at (symbols_under r) Equations c.args.place q (polynomials book ps))) c.equations-2.ensures.items c.in_ok-put.ensures.put in
     let keeps = c.in_ok-put.ensures.kept in

@@ -20,5 +20,5 @@ returns-then-branch-clause-refused c =
     let s = state_in book c.args.state.now in
     let h = c.in_ok-ran.ensures.ok in
     broken_stop _ (length c.args.run.now) rules.End _ (c.broken.ensures ∙ ap (λ (n : ℕ). record { steps = n; fault = NotPermitted rules.End }) c.len.ensures)
-    (grown_not_added (setting_of book.ranking) s c.args.first c.args.second c.args.run.now (record { terms = c.in_ok-ran.ran.terms; ran = record { end = c.in_ok-ran.ran.run.end.terms.items; count = h.count } }) h.is
+    (grown_not_added (setting_of book.ranking) s c.args.first c.args.second c.args.run.now (record { terms = c.in_ok-ran.ran.terms; ran = record { end = c.in_ok-ran.ran.run.end.terms; count = h.count } }) h.is
     (step_not_added (setting_of book.ranking) s c.args.first c.args.second c.args.run.now _ (sym c.in_ok-admits.ensures ∙ c.if-branch.true)))

@@ -13,7 +13,7 @@ returns-then-not-may_be_added-clause-refused c =
     let book = c.args.book.now in
     let h = c.requires.ran in
     broken_stop _ (length c.args.run.now) rules.End _ (c.broken.ensures ∙ ap (λ (n : ℕ). record { steps = n; fault = NotPermitted rules.End }) c.len.ensures)
-    (grown_not_added (setting_of book.ranking) (state_in book c.args.state.now) c.args.first c.args.second c.args.run.now (record { terms = c.args.ran.terms; ran = record { end = c.args.ran.run.end.terms.items; count = h.count } }) h.is (sym c.may_be_added.ensures ∙ c.if-not-may_be_added.true))
+    (grown_not_added (setting_of book.ranking) (state_in book c.args.state.now) c.args.first c.args.second c.args.run.now (record { terms = c.args.ran.terms; ran = record { end = c.args.ran.run.end.terms; count = h.count } }) h.is (sym c.may_be_added.ensures ∙ c.if-not-may_be_added.true))
 
 pub returns-clause-ok : goal.returns-clause-ok
 returns-clause-ok c =
@@ -21,7 +21,7 @@ returns-clause-ok c =
     let new = c.keep.new.self in
     let s = state_in book c.args.state.now in
     let h = c.requires.ran in
-    let end = c.args.ran.run.end.terms.items in
+    let end = c.args.ran.run.end.terms in
     let keeps = c.in_ok-end.ensures.kept in
     let es = c.in_ok-appended.ensures ∙ ap (λ (ps : List ℕ). ps ++ c.in_ok-end.end ∷ []) c.equations.ensures.items in
     let hs = c.in_ok-names.ensures ∙ c.inequations.ensures.items in

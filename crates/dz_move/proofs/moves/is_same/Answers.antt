@@ -1,6 +1,6 @@
 use Rattle.std.proofs.Common.{◌∙◌, ap, sym, eqb-true}
 use Rattle.dz_poly.specs.Books.{polynomial}
-use Rattle.dz_terms.specs.Ranked.{symbols_under}
+use Rattle.dz_monomials.specs.Ranked.{symbols_under}
 use Rattle.dz_diff.specs.Tests.{same}
 use Rattle.dz_diff.proofs.SameTests.{same_itself}
 use Rattle.dz_move.proofs.SameLists.{told_same}

@@ -23,12 +23,12 @@ pub returns-in_err-run_entry-clause-refused : goal.returns-in_err-run_entry-clau
 returns-in_err-run_entry-clause-refused c =
     let book = c.args.book.now in
     let y = err_from_is_err_and c.from_residual-in_err-run_entry.result c.from_residual-in_err-run_entry.ensures.1 in
-    rw (y.1, y.2) (placed_stopped book (state_in book c.args.state.now) c.args.role c.args.place c.args.polys.now c.args.run.now c.in-Some.p (sym c.in-Some.ensures) c.in_ok-norm.norm.terms.items c.in_ok-norm.ensures.terms _ c.in_err-run_entry.ensures.refused)
+    rw (y.1, y.2) (placed_stopped book (state_in book c.args.state.now) c.args.role c.args.place c.args.polys.now c.args.run.now c.in-Some.p (sym c.in-Some.ensures) c.in_ok-norm.norm.terms c.in_ok-norm.ensures.terms _ c.in_err-run_entry.ensures.refused)
 
 pub returns-clause-ok : goal.returns-clause-ok
 returns-clause-ok c =
     let book = c.args.book.now in
-    placed_ran book (state_in book c.args.state.now) c.args.role c.args.place c.args.polys.now c.args.run.now c.in-Some.p (sym c.in-Some.ensures) c.in_ok-norm.norm.terms.items c.in_ok-norm.ensures.terms _ c.in_ok-run_entry.ensures.ok
+    placed_ran book (state_in book c.args.state.now) c.args.role c.args.place c.args.polys.now c.args.run.now c.in-Some.p (sym c.in-Some.ensures) c.in_ok-norm.norm.terms c.in_ok-norm.ensures.terms _ c.in_ok-run_entry.ensures.ok
 
 pub returns-clause-counts : goal.returns-clause-counts
 returns-clause-counts c = (place_inside c.args.polys.now c.args.place c.in-Some.p (sym c.in-Some.ensures)).0

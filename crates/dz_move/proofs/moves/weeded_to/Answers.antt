@@ -1,7 +1,7 @@
 use Rattle.std.proofs.Common.{◌≡◌, ◌+◌, ◌∙◌, ℕ, List, length, ap, arith, subst}
 use Rattle.dz_diff.specs.Operations.{setting_of}
 use Rattle.dz_diff.specs.States.{MeanAll, polynomials, state_in}
-use Rattle.dz_terms.specs.Ranked.{symbols_under}
+use Rattle.dz_monomials.specs.Ranked.{symbols_under}
 use Rattle.dz_step.specs.declared.Role.TheVariants.{Inequation}
 use Rattle.dz_step.specs.Replays.{IsRunEnd}
 use Rattle.dz_move.specs.declared.roots.Members.TheVariants.{Inequations}
@@ -28,7 +28,7 @@ the_run c = c.requires.ran
 the_move : (c : goal.After-moved) → moved (setting_of c.put.new.book.ranking) (state_in c.put.new.book c.args.state.now) c.len.result (draft_in c.put.new.book (record { equations = c.in_ok-equations.equations; inequations = c.in_ok-inequations.inequations; splits = c.splits.result })) (1 + (the_run c).count) ≡ weeded (setting_of c.args.book.now.ranking) (state_in c.args.book.now c.args.state.now) c.args.place c.args.run.now
 the_move c =
     weeded_moves c.args.book.now c.put.new.book c.in_ok-inequations.ensures.kept c.args.state.now c.requires.stands c.args.place c.args.run.now c.args.ran c.in_ok-equations.equations.items c.in_ok-inequations.inequations.items c.splits.result c.len.result c.splits.ensures c.len.ensures (the_run c)
-    (subst (λ (ps : List ℕ). MeanAll c.put.new.book c.in_ok-inequations.inequations.items (put_at (symbols_under c.args.book.now.ranking) Inequations c.args.place c.args.ran.end.terms.items (polynomials c.args.book.now ps))) c.inequations.ensures.items c.in_ok-inequations.ensures.put)
+    (subst (λ (ps : List ℕ). MeanAll c.put.new.book c.in_ok-inequations.inequations.items (put_at (symbols_under c.args.book.now.ranking) Inequations c.args.place c.args.ran.end.terms (polynomials c.args.book.now ps))) c.inequations.ensures.items c.in_ok-inequations.ensures.put)
     (c.in_ok-equations.ensures ∙ c.equations.ensures.items)
 
 pub returns-clause-ok : goal.returns-clause-ok

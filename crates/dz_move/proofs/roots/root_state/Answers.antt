@@ -1,5 +1,5 @@
 use Rattle.std.proofs.Common.{◌∙◌, [], ℕ, List, ap, subst, sym}
-use Rattle.dz_terms.specs.Ranked.{symbols_under}
+use Rattle.dz_monomials.specs.Ranked.{symbols_under}
 use Rattle.dz_move.specs.Root.{kept_norms}
 use Rattle.dz_diff.specs.States.{IsStateOf, MeanAll, polynomials, state_in}
 use Rattle.dz_diff.specs.Tests.{is_unit, is_zero}

@@ -1,5 +1,5 @@
 use Rattle.std.proofs.Common.{arith}
-use Rattle.dz_terms.specs.Ranked.{symbols_under}
+use Rattle.dz_monomials.specs.Ranked.{symbols_under}
 use Rattle.dz_diff.specs.States.{state_in}
 use Rattle.dz_pair.proofs.PairLists.{are_critical}
 use Rattle.dz_pair.proofs.listing.pairs.Goals as goal

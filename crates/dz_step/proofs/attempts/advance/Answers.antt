@@ -14,6 +14,6 @@ pub returns-else-is_err-clause-advance : goal.returns-else-is_err-clause-advance
 returns-else-is_err-clause-advance c =
     let run : c.take_step.new.progress.run ≡ c.args.progress.now.run ++ c.in-Taken.step ∷ [] = first_of (search rules, grind (arith, common_steps)) in
     let rest : c.take_step.new.progress.rest ≡ c.in-Taken.next = first_of (search rules, grind (arith, common_steps)) in
-    let left : c.take_step.new.progress.left + 1 + length c.in-Taken.next.terms.items ≡ c.args.progress.now.left = first_of (search rules, grind (arith, common_steps)) in
+    let left : c.take_step.new.progress.left + 1 + length c.in-Taken.next.terms ≡ c.args.progress.now.left = first_of (search rules, grind (arith, common_steps)) in
     λ budget f at.
     moved c.args.book.now.ranking (state_in c.args.book.now c.args.state.now) c.args.role budget f c.args.progress.now at c.in-Taken.step c.in-Taken.next c.take_step.new.progress c.in-Taken.ensures.turn run rest left

@@ -13,7 +13,7 @@ pub unreachable-requires : goal.unreachable-requires
 unreachable-requires c =
     let book = c.args.book.now in
     let s = state_in book c.args.state.now in
-    let n = next_is book.ranking s c.args.role c.args.f.now.terms.items (entry_regular book.ranking c.args.f.now.terms.items c.requires.f.keepable) (list_regular book c.args.state.now.equations c.opened.ensures c.requires.stands.equations_live) c.args.step c.requires.next in
+    let n = next_is book.ranking s c.args.role c.args.f.now.terms (entry_regular book.ranking c.args.f.now.terms c.requires.f.keepable) (list_regular book c.args.state.now.equations c.opened.ensures c.requires.stands.equations_live) c.args.step c.requires.next in
     let none : at_place c.args.step.place s.equations ≡ None = none_at book c.args.state.now.equations c.args.step.place (sym c.equation_at.ensures ∙ c.in_default.is) in
     let there = n.stands in
     cc
@@ -25,34 +25,34 @@ pub returns-clause-ok : goal.returns-clause-ok
 returns-clause-ok c =
     let book = c.args.book.now in
     let s = state_in book c.args.state.now in
-    let f = c.args.f.now.terms.items in
+    let f = c.args.f.now.terms in
     let n = next_is book.ranking s c.args.role f (entry_regular book.ranking f c.requires.f.keepable) (list_regular book c.args.state.now.equations c.opened.ensures c.requires.stands.equations_live) c.args.step c.requires.next in
-    let here : at_place c.args.step.place s.equations ≡ Some c.entry.result.now.terms.items = some_at book c.args.state.now.equations c.args.step.place c.in-Some.p (sym c.equation_at.ensures ∙ c.in-Some.is) ∙ ap Some (sym c.entry.ensures.value) in
+    let here : at_place c.args.step.place s.equations ≡ Some c.entry.result.now.terms = some_at book c.args.state.now.equations c.args.step.place c.in-Some.p (sym c.equation_at.ensures ∙ c.in-Some.is) ∙ ap Some (sym c.entry.ensures.value) in
     let there = n.stands in
-    let same : n.equation ≡ c.entry.result.now.terms.items = cc in
-    let a : step_in (setting_of book.ranking) s c.args.role f c.args.step ≡ step_answer (setting_of book.ranking) f c.entry.result.now.terms.items c.args.step.operator = n.answer ∙ ap (λ q. step_answer (setting_of book.ranking) f q c.args.step.operator) same in
-    subst (λ q. IfOk c.step_entry.result (λ x. q ≡ Ok x.terms.items)) (sym a) (rw c.ranking.ensures at c.step_entry.ensures.ok)
+    let same : n.equation ≡ c.entry.result.now.terms = cc in
+    let a : step_in (setting_of book.ranking) s c.args.role f c.args.step ≡ step_answer (setting_of book.ranking) f c.entry.result.now.terms c.args.step.operator = n.answer ∙ ap (λ q. step_answer (setting_of book.ranking) f q c.args.step.operator) same in
+    subst (λ q. IfOk c.step_entry.result (λ x. q ≡ Ok x.terms)) (sym a) (rw c.ranking.ensures at c.step_entry.ensures.ok)
 
 pub returns-clause-refused : goal.returns-clause-refused
 returns-clause-refused c =
     let book = c.args.book.now in
     let s = state_in book c.args.state.now in
-    let f = c.args.f.now.terms.items in
+    let f = c.args.f.now.terms in
     let n = next_is book.ranking s c.args.role f (entry_regular book.ranking f c.requires.f.keepable) (list_regular book c.args.state.now.equations c.opened.ensures c.requires.stands.equations_live) c.args.step c.requires.next in
-    let here : at_place c.args.step.place s.equations ≡ Some c.entry.result.now.terms.items = some_at book c.args.state.now.equations c.args.step.place c.in-Some.p (sym c.equation_at.ensures ∙ c.in-Some.is) ∙ ap Some (sym c.entry.ensures.value) in
+    let here : at_place c.args.step.place s.equations ≡ Some c.entry.result.now.terms = some_at book c.args.state.now.equations c.args.step.place c.in-Some.p (sym c.equation_at.ensures ∙ c.in-Some.is) ∙ ap Some (sym c.entry.ensures.value) in
     let there = n.stands in
-    let same : n.equation ≡ c.entry.result.now.terms.items = cc in
-    let a : step_in (setting_of book.ranking) s c.args.role f c.args.step ≡ step_answer (setting_of book.ranking) f c.entry.result.now.terms.items c.args.step.operator = n.answer ∙ ap (λ q. step_answer (setting_of book.ranking) f q c.args.step.operator) same in
+    let same : n.equation ≡ c.entry.result.now.terms = cc in
+    let a : step_in (setting_of book.ranking) s c.args.role f c.args.step ≡ step_answer (setting_of book.ranking) f c.entry.result.now.terms c.args.step.operator = n.answer ∙ ap (λ q. step_answer (setting_of book.ranking) f q c.args.step.operator) same in
     subst (λ q. IfErr c.step_entry.result (λ stop. IsStepStop stop q)) (sym a) (rw c.ranking.ensures at c.step_entry.ensures.refused)
 
 pub returns-clause-limited : goal.returns-clause-limited
 returns-clause-limited c =
     let book = c.args.book.now in
     let s = state_in book c.args.state.now in
-    let f = c.args.f.now.terms.items in
+    let f = c.args.f.now.terms in
     let n = next_is book.ranking s c.args.role f (entry_regular book.ranking f c.requires.f.keepable) (list_regular book c.args.state.now.equations c.opened.ensures c.requires.stands.equations_live) c.args.step c.requires.next in
-    let here : at_place c.args.step.place s.equations ≡ Some c.entry.result.now.terms.items = some_at book c.args.state.now.equations c.args.step.place c.in-Some.p (sym c.equation_at.ensures ∙ c.in-Some.is) ∙ ap Some (sym c.entry.ensures.value) in
+    let here : at_place c.args.step.place s.equations ≡ Some c.entry.result.now.terms = some_at book c.args.state.now.equations c.args.step.place c.in-Some.p (sym c.equation_at.ensures ∙ c.in-Some.is) ∙ ap Some (sym c.entry.ensures.value) in
     let there = n.stands in
-    let same : n.equation ≡ c.entry.result.now.terms.items = cc in
-    let a : step_in (setting_of book.ranking) s c.args.role f c.args.step ≡ step_answer (setting_of book.ranking) f c.entry.result.now.terms.items c.args.step.operator = n.answer ∙ ap (λ q. step_answer (setting_of book.ranking) f q c.args.step.operator) same in
+    let same : n.equation ≡ c.entry.result.now.terms = cc in
+    let a : step_in (setting_of book.ranking) s c.args.role f c.args.step ≡ step_answer (setting_of book.ranking) f c.entry.result.now.terms c.args.step.operator = n.answer ∙ ap (λ q. step_answer (setting_of book.ranking) f q c.args.step.operator) same in
     err_weaker c.step_entry.result (λ stop. not_no_step (step_in (setting_of book.ranking) s c.args.role f c.args.step) stop n.limited) (subst (λ q. IfErr c.step_entry.result (λ stop. IsStepStop stop q)) (sym a) (rw c.ranking.ensures at c.step_entry.ensures.refused))

@@ -15,4 +15,4 @@ returns-in_default-clause-stopped c =
 pub returns-in-Ok-keep-clause-ended : goal.returns-in-Ok-keep-clause-ended
 returns-in-Ok-keep-clause-ended c =
     ap ended (c.in_ok-run.ensures.finished (polynomial c.args.book.now c.args.f) c.in-Ok.ensures.terms)
-    ∙ ap (λ (q : Polynomial Symbol). Some (c.in_ok-run.field-0.run, q)) (sym (means_polynomial c.keep.new.self c.in-Ok-keep.end c.in_ok-run.field-0.end.terms.items c.in-Ok-keep.ensures.ok))
+    ∙ ap (λ (q : Polynomial Symbol). Some (c.in_ok-run.field-0.run, q)) (sym (means_polynomial c.keep.new.self c.in-Ok-keep.end c.in_ok-run.field-0.end.terms c.in-Ok-keep.ensures.ok))

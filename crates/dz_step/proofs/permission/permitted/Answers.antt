@@ -15,14 +15,14 @@ entry-q-requires c = lives_at c.args.book.now c.args.state.now.equations c.args.
 
 pub returns-in_default-leader_of : goal.returns-in_default-leader_of
 returns-in_default-leader_of c =
-    permitted_unled c.args.book.now c.args.state.now c.args.role c.args.j c.args.operator c.in-Some.p c.entry-q.result.now.terms.items (sym c.equation_at.ensures ∙ c.in-Some.is) c.entry-q.ensures.value
+    permitted_unled c.args.book.now c.args.state.now c.args.role c.args.j c.args.operator c.in-Some.p c.entry-q.result.now.terms (sym c.equation_at.ensures ∙ c.in-Some.is) c.entry-q.ensures.value
     (sym (c.leader_of.ensures c.args.book.now.ranking c.entry-q.ensures.entry) ∙ c.in_default-leader_of.is)
 
 pub returns : goal.returns
 returns c =
     let g = setting_of c.args.book.now.ranking in
     let s = state_in c.args.book.now c.args.state.now in
-    let q = c.entry-q.result.now.terms.items in
+    let q = c.entry-q.result.now.terms in
     let l = c.in-Some-leader_of.lead in
     let whole : is_permitted g s c.args.role q l c.args.operator ≡ is_permitted_at g s c.args.role c.args.j c.args.operator =
     permitted_led c.args.book.now c.args.state.now c.args.role c.args.j c.args.operator c.in-Some.p q (sym c.equation_at.ensures ∙ c.in-Some.is) c.entry-q.ensures.value l

@@ -15,7 +15,7 @@ returns-in_default-clause-refused c =
     let g = setting_of book.ranking in
     let s = state_in book c.args.state.now in
     let divisor : is_divisor c.args.role c.args.step.place ≡ true = sym c.lets_divide.ensures ∙ c.if-not-lets_divide.false in
-    inr (ap stop_of (no_equation g s c.args.role c.args.f.now.terms.items c.args.step divisor (none_at book c.args.state.now.equations c.args.step.place (sym c.equation_at.ensures ∙ c.in_default.is))))
+    inr (ap stop_of (no_equation g s c.args.role c.args.f.now.terms c.args.step divisor (none_at book c.args.state.now.equations c.args.step.place (sym c.equation_at.ensures ∙ c.in_default.is))))
 
 pub entry-q-requires : goal.entry-q-requires
 entry-q-requires c = lives_at c.args.book.now c.args.state.now.equations c.args.step.place c.in-Some.p c.requires.stands.equations_live (sym c.equation_at.ensures ∙ c.in-Some.is)
@@ -26,9 +26,9 @@ returns-in_default-leader_of-clause-refused c =
     let g = setting_of book.ranking in
     let s = state_in book c.args.state.now in
     let divisor : is_divisor c.args.role c.args.step.place ≡ true = sym c.lets_divide.ensures ∙ c.if-not-lets_divide.false in
-    let q = c.entry-q.result.now.terms.items in
+    let q = c.entry-q.result.now.terms in
     let there : at_place c.args.step.place s.equations ≡ Some q = some_at book c.args.state.now.equations c.args.step.place c.in-Some.p (sym c.equation_at.ensures ∙ c.in-Some.is) ∙ ap Some (sym c.entry-q.ensures.value) in
-    inr (ap stop_of (no_leader g s c.args.role c.args.f.now.terms.items c.args.step divisor q there (sym (c.leader_of.ensures book.ranking c.entry-q.ensures.entry) ∙ c.in_default-leader_of.is)))
+    inr (ap stop_of (no_leader g s c.args.role c.args.f.now.terms c.args.step divisor q there (sym (c.leader_of.ensures book.ranking c.entry-q.ensures.entry) ∙ c.in_default-leader_of.is)))
 
 pub returns-then-not-branch-clause-refused : goal.returns-then-not-branch-clause-refused
 returns-then-not-branch-clause-refused c =
@@ -36,12 +36,12 @@ returns-then-not-branch-clause-refused c =
     let g = setting_of book.ranking in
     let s = state_in book c.args.state.now in
     let divisor : is_divisor c.args.role c.args.step.place ≡ true = sym c.lets_divide.ensures ∙ c.if-not-lets_divide.false in
-    let q = c.entry-q.result.now.terms.items in
+    let q = c.entry-q.result.now.terms in
     let there : at_place c.args.step.place s.equations ≡ Some q = some_at book c.args.state.now.equations c.args.step.place c.in-Some.p (sym c.equation_at.ensures ∙ c.in-Some.is) ∙ ap Some (sym c.entry-q.ensures.value) in
     let l = c.in-Some-leader_of.lead in
     let leads : leader g.symbols q ≡ Some l = sym (c.leader_of.ensures book.ranking c.entry-q.ensures.entry) ∙ c.in-Some-leader_of.is in
     let permission : c.in_ok-is_granted.field-0 ≡ is_permitted g s c.args.role q l c.args.step.operator = c.in_ok-is_granted.ensures ∙ ap (λ w. permitted_if g.symbols (usable c.args.role s.inequations) (multiplier_answer g.symbols w l q)) c.which_of.ensures in
-    inr (ap stop_of (no_permission g s c.args.role c.args.f.now.terms.items c.args.step divisor q there l leads (sym permission ∙ c.if-not-branch.true)))
+    inr (ap stop_of (no_permission g s c.args.role c.args.f.now.terms c.args.step divisor q there l leads (sym permission ∙ c.if-not-branch.true)))
 
 pub returns-clause-ok : goal.returns-clause-ok
 returns-clause-ok c =
@@ -49,13 +49,13 @@ returns-clause-ok c =
     let g = setting_of book.ranking in
     let s = state_in book c.args.state.now in
     let divisor : is_divisor c.args.role c.args.step.place ≡ true = sym c.lets_divide.ensures ∙ c.if-not-lets_divide.false in
-    let q = c.entry-q.result.now.terms.items in
+    let q = c.entry-q.result.now.terms in
     let there : at_place c.args.step.place s.equations ≡ Some q = some_at book c.args.state.now.equations c.args.step.place c.in-Some.p (sym c.equation_at.ensures ∙ c.in-Some.is) ∙ ap Some (sym c.entry-q.ensures.value) in
     let l = c.in-Some-leader_of.lead in
     let leads : leader g.symbols q ≡ Some l = sym (c.leader_of.ensures book.ranking c.entry-q.ensures.entry) ∙ c.in-Some-leader_of.is in
     let permission : c.in_ok-is_granted.field-0 ≡ is_permitted g s c.args.role q l c.args.step.operator = c.in_ok-is_granted.ensures ∙ ap (λ w. permitted_if g.symbols (usable c.args.role s.inequations) (multiplier_answer g.symbols w l q)) c.which_of.ensures in
-    let whole : step_in g s c.args.role c.args.f.now.terms.items c.args.step ≡ step_answer g c.args.f.now.terms.items q c.args.step.operator =
-    has_permission g s c.args.role c.args.f.now.terms.items c.args.step divisor q there l leads (sym permission ∙ c.if-not-branch.false) in
+    let whole : step_in g s c.args.role c.args.f.now.terms c.args.step ≡ step_answer g c.args.f.now.terms q c.args.step.operator =
+    has_permission g s c.args.role c.args.f.now.terms c.args.step divisor q there l leads (sym permission ∙ c.if-not-branch.false) in
     rw (whole, ← c.ranking.ensures) c.step_entry.ensures.ok
 
 pub returns-clause-refused : goal.returns-clause-refused
@@ -64,11 +64,11 @@ returns-clause-refused c =
     let g = setting_of book.ranking in
     let s = state_in book c.args.state.now in
     let divisor : is_divisor c.args.role c.args.step.place ≡ true = sym c.lets_divide.ensures ∙ c.if-not-lets_divide.false in
-    let q = c.entry-q.result.now.terms.items in
+    let q = c.entry-q.result.now.terms in
     let there : at_place c.args.step.place s.equations ≡ Some q = some_at book c.args.state.now.equations c.args.step.place c.in-Some.p (sym c.equation_at.ensures ∙ c.in-Some.is) ∙ ap Some (sym c.entry-q.ensures.value) in
     let l = c.in-Some-leader_of.lead in
     let leads : leader g.symbols q ≡ Some l = sym (c.leader_of.ensures book.ranking c.entry-q.ensures.entry) ∙ c.in-Some-leader_of.is in
     let permission : c.in_ok-is_granted.field-0 ≡ is_permitted g s c.args.role q l c.args.step.operator = c.in_ok-is_granted.ensures ∙ ap (λ w. permitted_if g.symbols (usable c.args.role s.inequations) (multiplier_answer g.symbols w l q)) c.which_of.ensures in
-    let whole : step_in g s c.args.role c.args.f.now.terms.items c.args.step ≡ step_answer g c.args.f.now.terms.items q c.args.step.operator =
-    has_permission g s c.args.role c.args.f.now.terms.items c.args.step divisor q there l leads (sym permission ∙ c.if-not-branch.false) in
+    let whole : step_in g s c.args.role c.args.f.now.terms c.args.step ≡ step_answer g c.args.f.now.terms q c.args.step.operator =
+    has_permission g s c.args.role c.args.f.now.terms c.args.step divisor q there l leads (sym permission ∙ c.if-not-branch.false) in
     rw (whole, ← c.ranking.ensures) c.step_entry.ensures.refused

@@ -9,5 +9,5 @@ use Rattle.dz_step.proofs.searching.next_step_entry.Given as goal
 abbrev pub invariant-loop-power : goal.invariant-loop-power
 invariant-loop-power l = record {
   kept : AreDivisors l.book.ranking (state_in l.book l.state) l.role l.table.items;
-  rest : next_step (setting_of l.book.ranking) (state_in l.book l.state) l.role l.f.terms.items ≡ from_symbol l.book.ranking (state_in l.book l.state) l.role l.f.terms.items l.power-items l.power-index;
+  rest : next_step (setting_of l.book.ranking) (state_in l.book l.state) l.role l.f.terms ≡ from_symbol l.book.ranking (state_in l.book l.state) l.role l.f.terms l.power-items l.power-index;
 }

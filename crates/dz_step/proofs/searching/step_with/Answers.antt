@@ -71,7 +71,7 @@ answered-requires-clause-divisor c =
     let n = polynomials_length c.args.book.now c.args.state.now.equations in
     let inside : c.args.i < length c.args.state.now.equations = omega (arith, l, n, c.requires.inside) in
     let there : c.index-equations-i.result ≡ slice_index_or c.args.state.now.equations c.args.i c.index-equations-i.result = c.index-equations-i.is ∙ ap (λ ps. slice_index_or ps c.args.i c.index-equations-i.result) c.equations.ensures.items in
-    let here : c.entry-q.result.now.terms.items ≡ slice_index_or s.equations c.args.i [] = c.entry-q.ensures.value ∙ ap (polynomial c.args.book.now) there ∙ sym (polynomial_here c.args.book.now c.args.state.now.equations c.args.i c.index-equations-i.result inside) in
+    let here : c.entry-q.result.now.terms ≡ slice_index_or s.equations c.args.i [] = c.entry-q.ensures.value ∙ ap (polynomial c.args.book.now) there ∙ sym (polynomial_here c.args.book.now c.args.state.now.equations c.args.i c.index-equations-i.result inside) in
     subst (λ q. IsDivisorOf r (usable c.args.role s.inequations) q c.in-Some.divisor) (sym here) h.1
 
 pub returns-then-not-granted-clause-table : goal.returns-then-not-granted-clause-table
@@ -82,7 +82,7 @@ returns-then-not-granted-clause-table c =
     let n = polynomials_length c.args.book.now c.args.state.now.equations in
     let inside : c.args.i < length c.args.state.now.equations = omega (arith, l, n, c.requires.inside) in
     let there : c.index-equations-i.result ≡ slice_index_or c.args.state.now.equations c.args.i c.index-equations-i.result = c.index-equations-i.is ∙ ap (λ ps. slice_index_or ps c.args.i c.index-equations-i.result) c.equations.ensures.items in
-    let here : c.entry-q.result.now.terms.items ≡ slice_index_or s.equations c.args.i [] = c.entry-q.ensures.value ∙ ap (polynomial c.args.book.now) there ∙ sym (polynomial_here c.args.book.now c.args.state.now.equations c.args.i c.index-equations-i.result inside) in
+    let here : c.entry-q.result.now.terms ≡ slice_index_or s.equations c.args.i [] = c.entry-q.ensures.value ∙ ap (polynomial c.args.book.now) there ∙ sym (polynomial_here c.args.book.now c.args.state.now.equations c.args.i c.index-equations-i.result inside) in
     divisor_put r s c.args.role c.args.table.now.items c.requires.table c.args.i c.index.result.now c.requires.inside c.index.ensures c.in-Some.divisor c.in-Some.is c.in_ok-granted.divisor
     (subst (λ q. IsDivisorOf r (usable c.args.role s.inequations) q c.in_ok-granted.divisor) here c.in_ok-granted.ensures.divisor)
 
@@ -94,7 +94,7 @@ returns-clause-table c =
     let n = polynomials_length c.args.book.now c.args.state.now.equations in
     let inside : c.args.i < length c.args.state.now.equations = omega (arith, l, n, c.requires.inside) in
     let there : c.index-equations-i.result ≡ slice_index_or c.args.state.now.equations c.args.i c.index-equations-i.result = c.index-equations-i.is ∙ ap (λ ps. slice_index_or ps c.args.i c.index-equations-i.result) c.equations.ensures.items in
-    let here : c.entry-q.result.now.terms.items ≡ slice_index_or s.equations c.args.i [] = c.entry-q.ensures.value ∙ ap (polynomial c.args.book.now) there ∙ sym (polynomial_here c.args.book.now c.args.state.now.equations c.args.i c.index-equations-i.result inside) in
+    let here : c.entry-q.result.now.terms ≡ slice_index_or s.equations c.args.i [] = c.entry-q.ensures.value ∙ ap (polynomial c.args.book.now) there ∙ sym (polynomial_here c.args.book.now c.args.state.now.equations c.args.i c.index-equations-i.result inside) in
     divisor_put r s c.args.role c.args.table.now.items c.requires.table c.args.i c.index.result.now c.requires.inside c.index.ensures c.in-Some.divisor c.in-Some.is c.in_ok-granted.divisor
     (subst (λ q. IsDivisorOf r (usable c.args.role s.inequations) q c.in_ok-granted.divisor) here c.in_ok-granted.ensures.divisor)
 
@@ -106,11 +106,11 @@ returns-then-not-granted-clause-step c f e =
     let n = polynomials_length c.args.book.now c.args.state.now.equations in
     let inside : c.args.i < length c.args.state.now.equations = omega (arith, l, n, c.requires.inside) in
     let there : c.index-equations-i.result ≡ slice_index_or c.args.state.now.equations c.args.i c.index-equations-i.result = c.index-equations-i.is ∙ ap (λ ps. slice_index_or ps c.args.i c.index-equations-i.result) c.equations.ensures.items in
-    let here : c.entry-q.result.now.terms.items ≡ slice_index_or s.equations c.args.i [] = c.entry-q.ensures.value ∙ ap (polynomial c.args.book.now) there ∙ sym (polynomial_here c.args.book.now c.args.state.now.equations c.args.i c.index-equations-i.result inside) in
+    let here : c.entry-q.result.now.terms ≡ slice_index_or s.equations c.args.i [] = c.entry-q.ensures.value ∙ ap (polynomial c.args.book.now) there ∙ sym (polynomial_here c.args.book.now c.args.state.now.equations c.args.i c.index-equations-i.result inside) in
     let h = divisor_here r s c.args.role c.args.table.now.items c.requires.table c.args.i c.index.result.now c.requires.inside c.index.ensures c.in-Some.divisor c.in-Some.is in
     let four : length c.in-Some-quotient.operator.counts ≡ 4 = first_of (search rules, grind (arith, common_steps)) in
     let answer : c.in_ok-granted.granted ≡ is_multiplier r (usable c.args.role s.inequations) (multiplier_of c.in-Some-quotient.operator) c.in-Some.divisor.lead (slice_index_or s.equations c.args.i []) =
-    c.in_ok-granted.ensures.answer ∙ ap (λ w. is_multiplier r (usable c.args.role s.inequations) w c.in-Some.divisor.lead c.entry-q.result.now.terms.items) c.which_of-which.ensures ∙ ap (is_multiplier r (usable c.args.role s.inequations) (multiplier_of c.in-Some-quotient.operator) c.in-Some.divisor.lead) here in
+    c.in_ok-granted.ensures.answer ∙ ap (λ w. is_multiplier r (usable c.args.role s.inequations) w c.in-Some.divisor.lead c.entry-q.result.now.terms) c.which_of-which.ensures ∙ ap (is_multiplier r (usable c.args.role s.inequations) (multiplier_of c.in-Some-quotient.operator) c.in-Some.divisor.lead) here in
     not_granted r s c.args.role f c.args.v (suc c.args.i) (slice_index_or s.equations c.args.i []) c.in-Some.divisor h.1 c.in-Some-quotient.operator four c.in-Some-quotient.ensures c.in_ok-granted.granted answer c.if-not-granted.true
 
 pub returns-clause-step : goal.returns-clause-step
@@ -121,11 +121,11 @@ returns-clause-step c f e =
     let n = polynomials_length c.args.book.now c.args.state.now.equations in
     let inside : c.args.i < length c.args.state.now.equations = omega (arith, l, n, c.requires.inside) in
     let there : c.index-equations-i.result ≡ slice_index_or c.args.state.now.equations c.args.i c.index-equations-i.result = c.index-equations-i.is ∙ ap (λ ps. slice_index_or ps c.args.i c.index-equations-i.result) c.equations.ensures.items in
-    let here : c.entry-q.result.now.terms.items ≡ slice_index_or s.equations c.args.i [] = c.entry-q.ensures.value ∙ ap (polynomial c.args.book.now) there ∙ sym (polynomial_here c.args.book.now c.args.state.now.equations c.args.i c.index-equations-i.result inside) in
+    let here : c.entry-q.result.now.terms ≡ slice_index_or s.equations c.args.i [] = c.entry-q.ensures.value ∙ ap (polynomial c.args.book.now) there ∙ sym (polynomial_here c.args.book.now c.args.state.now.equations c.args.i c.index-equations-i.result inside) in
     let h = divisor_here r s c.args.role c.args.table.now.items c.requires.table c.args.i c.index.result.now c.requires.inside c.index.ensures c.in-Some.divisor c.in-Some.is in
     let four : length c.in-Some-quotient.operator.counts ≡ 4 = first_of (search rules, grind (arith, common_steps)) in
     let answer : c.in_ok-granted.granted ≡ is_multiplier r (usable c.args.role s.inequations) (multiplier_of c.in-Some-quotient.operator) c.in-Some.divisor.lead (slice_index_or s.equations c.args.i []) =
-    c.in_ok-granted.ensures.answer ∙ ap (λ w. is_multiplier r (usable c.args.role s.inequations) w c.in-Some.divisor.lead c.entry-q.result.now.terms.items) c.which_of-which.ensures ∙ ap (is_multiplier r (usable c.args.role s.inequations) (multiplier_of c.in-Some-quotient.operator) c.in-Some.divisor.lead) here in
+    c.in_ok-granted.ensures.answer ∙ ap (λ w. is_multiplier r (usable c.args.role s.inequations) w c.in-Some.divisor.lead c.entry-q.result.now.terms) c.which_of-which.ensures ∙ ap (is_multiplier r (usable c.args.role s.inequations) (multiplier_of c.in-Some-quotient.operator) c.in-Some.divisor.lead) here in
     ap (λ n. Some (record { place = n; operator = c.in-Some-quotient.operator })) (let p : c.args.i + 1 ≡ suc c.args.i = omega arith in p)
     ∙ step_found r s c.args.role f c.args.v (suc c.args.i) (slice_index_or s.equations c.args.i []) c.in-Some.divisor h.1 c.in-Some-quotient.operator four c.in-Some-quotient.ensures
     c.args.d c.least_degree.result c.in_ok-granted.granted h.0 e (c.least_degree.ensures r (usable c.args.role s.inequations) (slice_index_or s.equations c.args.i []) h.1) c.if-d-least_degree.false answer c.if-not-granted.false

@@ -1,7 +1,7 @@
 use Rattle.std.proofs.Common.{◌∙◌, ◌++◌, ap₂, arith}
 use Rattle.dz_rank.specs.Rankings.{ranking_cmp}
-use Rattle.dz_terms.proofs.Multiplying.{monomial_at}
-use Rattle.dz_terms.proofs.PowerCoefficients.{term_more}
+use Rattle.dz_monomials.proofs.Multiplying.{monomial_at}
+use Rattle.dz_monomials.proofs.PowerCoefficients.{term_more}
 use Rattle.dz_terms.proofs.coefficients.part_terms.Goals as goal
 
 pub term_part-requires-clause-canonical : goal.term_part-requires-clause-canonical

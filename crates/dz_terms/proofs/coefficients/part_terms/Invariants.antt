@@ -1,7 +1,7 @@
 use Rattle.std.proofs.Common.{◌≡◌, take}
 use Rattle.dz_algebra.specs.Parts.{coefficient_of}
 use Rattle.dz_rank.specs.Rankings.{ranking_cmp}
-use Rattle.dz_terms.specs.Terms.{times_power}
+use Rattle.dz_monomials.specs.Terms.{times_power}
 use Rattle.dz_terms.proofs.coefficients.part_terms.Given as goal
 
 abbrev pub invariant-loop-term : goal.invariant-loop-term

@@ -1,7 +1,7 @@
 use Rattle.std.proofs.Common.{◌≡◌, rules, arith, subst, unsigned_abs}
 use Rattle.std.proofs.lemmas.Grind.{common_steps}
 use Rattle.std.specs.Int.{IsGcd}
-use Rattle.dz_terms.proofs.Contents.{one_more}
+use Rattle.dz_monomials.proofs.Contents.{one_more}
 use Rattle.dz_terms.proofs.dividing.content_of.Goals as goal
 
 pub loop-i-preserved : goal.loop-i-preserved

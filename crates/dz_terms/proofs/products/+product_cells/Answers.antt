@@ -2,9 +2,9 @@ use Rattle.std.proofs.Common.{arith, inr, refl}
 use Rattle.std.proofs.lemmas.Result.{err_from_is_err_and}
 use Rattle.dz_rank.specs.Rankings.{ranking_cmp}
 use Rattle.dz_algebra.specs.Polynomial.{pairs}
-use Rattle.dz_terms.proofs.Multiplying.{low_at}
-use Rattle.dz_terms.proofs.Halves.{one_row, front_is, back_is, front_low, back_low, front_pairs_low, back_pairs_low, front_refused, back_refused, parts_absorbed, too_many}
-use Rattle.dz_terms.proofs.SymbolLaws.{ranking_order}
+use Rattle.dz_monomials.proofs.Multiplying.{low_at}
+use Rattle.dz_monomials.proofs.Halves.{one_row, front_is, back_is, front_low, back_low, front_pairs_low, back_pairs_low, front_refused, back_refused, parts_absorbed, too_many}
+use Rattle.dz_monomials.proofs.SymbolLaws.{ranking_order}
 use Rattle.dz_terms.proofs.products.+product_cells.Goals as goal
 
 pub row_cells-requires-clause-low_term : goal.row_cells-requires-clause-low_term

@@ -4,9 +4,9 @@ use Rattle.dz_algebra.specs.Gather.{merge}
 use Rattle.dz_algebra.specs.Monomial.{monomial_product}
 use Rattle.std.proofs.lemmas.Result.{err_from_is_err_and}
 use Rattle.dz_rank.specs.Rankings.{ranking_cmp}
-use Rattle.dz_terms.specs.Cells.{capped}
-use Rattle.dz_terms.proofs.Multiplying.{row_more, product_merges, monomial_at, low_at, row_refused}
-use Rattle.dz_terms.proofs.SymbolLaws.{ranking_order}
+use Rattle.dz_monomials.specs.Cells.{capped}
+use Rattle.dz_monomials.proofs.Multiplying.{row_more, product_merges, monomial_at, low_at, row_refused}
+use Rattle.dz_monomials.proofs.SymbolLaws.{ranking_order}
 use Rattle.dz_terms.proofs.products.row_cells.Goals as goal
 
 pub multiply-requires-clause-second : goal.multiply-requires-clause-second

@@ -1,7 +1,7 @@
 use Rattle.std.proofs.Common.{◌≡◌, take}
 use Rattle.dz_algebra.specs.Polynomial.{term_times}
 use Rattle.dz_algebra.specs.Amount.{amounts}
-use Rattle.dz_terms.specs.Cells.{caps}
+use Rattle.dz_monomials.specs.Cells.{caps}
 use Rattle.dz_rank.specs.Rankings.{ranking_cmp}
 use Rattle.dz_terms.proofs.products.row_cells.Given as goal
 

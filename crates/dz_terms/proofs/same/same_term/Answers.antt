@@ -2,7 +2,7 @@ use Rattle.std.proofs.Common.{◌≡◌, ◌∙◌, ap₂, rules, arith, sym, re
 use Rattle.std.proofs.lemmas.Grind.{common_steps}
 use Rattle.dz_algebra.specs.Monomial.{monomial_cmp}
 use Rattle.dz_rank.specs.Rankings.{ranking_cmp}
-use Rattle.dz_terms.proofs.SameTerms.{same_pair, other_pair}
+use Rattle.dz_monomials.proofs.SameTerms.{same_pair, other_pair}
 use Rattle.dz_terms.proofs.same.same_term.Goals as goal
 
 pub returns-in-Equal : goal.returns-in-Equal

@@ -2,9 +2,9 @@ use Rattle.std.proofs.Common.{◌≡◌, ◌++◌, ◌+◌, length}
 use Rattle.dz_algebra.specs.Amount.{amounts}
 use Rattle.dz_algebra.specs.Gather.{merge}
 use Rattle.dz_algebra.specs.Monomial.{monomial_cmp}
-use Rattle.dz_terms.specs.Cells.{add_capped, caps}
-use Rattle.dz_terms.specs.Signs.{with_sign}
-use Rattle.dz_terms.specs.declared.sums.Sign.TheVariants.{Plus}
+use Rattle.dz_monomials.specs.Cells.{add_capped, caps}
+use Rattle.dz_monomials.specs.Signs.{with_sign}
+use Rattle.dz_monomials.specs.declared.sign.Sign.TheVariants.{Plus}
 use Rattle.dz_rank.specs.Rankings.{ranking_cmp}
 use Rattle.dz_terms.proofs.sums.merged_cells.Given as goal
 

@@ -1,6 +1,6 @@
 use Rattle.std.proofs.Common.{◌∙◌}
-use Rattle.dz_terms.proofs.Summing.{merged_signs}
-use Rattle.dz_terms.proofs.SymbolLaws.{ranking_order}
+use Rattle.dz_monomials.proofs.Summing.{merged_signs}
+use Rattle.dz_monomials.proofs.SymbolLaws.{ranking_order}
 use Rattle.dz_terms.proofs.sums.sum_cells.Goals as goal
 
 pub returns : goal.returns

@@ -1,5 +1,5 @@
 use Rattle.std.proofs.Common.{◌≡◌, ◌∙◌, ◌&&◌, Bool, true, false, sym, ap, refl}
-use Rattle.dz_terms.specs.Ranked.{symbols_under}
+use Rattle.dz_monomials.specs.Ranked.{symbols_under}
 use Rattle.dz_diff.specs.States.{state_in}
 use Rattle.dz_tree.specs.ChainParts.{multipliers}
 use Rattle.dz_tree.proofs.ChainParts.{rule_in_book}

@@ -1,5 +1,5 @@
 use Rattle.std.proofs.Common.{◌≡◌, true, drop}
-use Rattle.dz_terms.specs.Ranked.{symbols_under}
+use Rattle.dz_monomials.specs.Ranked.{symbols_under}
 use Rattle.dz_diff.specs.States.{polynomials, state_in}
 use Rattle.dz_tree.specs.ChainParts.{multiplier_rule}
 use Rattle.dz_tree.proofs.chain_multipliers.multiplier_rule.Given as goal

@@ -1,11 +1,11 @@
 use Rattle.std.proofs.Common.{◌≡◌, ◌≤◌, ◌+◌, ◌∙◌, sym, subst, arith}
 use Rattle.dz_poly.specs.Books.{polynomial}
 use Rattle.dz_rank.specs.Rankings.{RankingValue}
-use Rattle.dz_terms.specs.Ranked.{symbols_under}
+use Rattle.dz_monomials.specs.Ranked.{symbols_under}
 use Rattle.dz_diff.specs.Operations.{setting_of}
 use Rattle.dz_diff.specs.States.{state_in}
 use Rattle.dz_diff.proofs.MemberTests.{zero_by_length}
-use Rattle.dz_diff.specs.Outcome.{numbered}
+use Rattle.dz_algebra.specs.Outcome.{numbered}
 use Rattle.dz_move.specs.Lines.{Evidence}
 use Rattle.dz_tree.specs.Chain.{evidence_weight}
 use Rattle.dz_tree.specs.Entering.{IsEntryFault}
@@ -45,7 +45,7 @@ returns-then-not-is_zero-clause-refused c =
     let b = polynomial_at book c.args.state.now.equations _ c.args.second _ c.equations-2.ensures.items c.member_at-2.ensures c.in-Some-member_at.q c.in-Some-member_at.is in
     let h = c.in-Ok.ensures.ok in
     not_coherent (setting_of book.ranking) (state_in book c.args.state.now) e (polynomial book c.in-Some.p) (polynomial book c.in-Some-member_at.q) a b _ h.is c.args.line
-    (sym (zero_by_length c.in-Ok.field-0.run.end.terms.items) ∙ sym c.is_zero.ensures ∙ c.if-not-is_zero.true)
+    (sym (zero_by_length c.in-Ok.field-0.run.end.terms) ∙ sym c.is_zero.ensures ∙ c.if-not-is_zero.true)
 
 pub returns-else-not-is_zero-clause-ok : goal.returns-else-not-is_zero-clause-ok
 returns-else-not-is_zero-clause-ok c =
@@ -60,7 +60,7 @@ returns-else-not-is_zero-clause-ok c =
     let counted = h.counted in (
       1 + c.in-Ok.field-0.terms + h.count,
       coherent_weight (setting_of book.ranking) (state_in book c.args.state.now) e (polynomial book c.in-Some.p) (polynomial book c.in-Some-member_at.q) a b _ h.is
-          (sym (zero_by_length c.in-Ok.field-0.run.end.terms.items) ∙ sym c.is_zero.ensures ∙ c.if-not-is_zero.false)
+          (sym (zero_by_length c.in-Ok.field-0.run.end.terms) ∙ sym c.is_zero.ensures ∙ c.if-not-is_zero.false)
           (run_below book few c.opened.ensures c.args.state.now c.requires.stands e (polynomial book c.in-Some.p) (polynomial book c.in-Some-member_at.q) a b one c.requires.operators _ h.is),
       omega (arith, counted, c.saturating_add.ensures, c.saturating_add-in-Ok.ensures),
     )

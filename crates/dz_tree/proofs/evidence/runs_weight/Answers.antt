@@ -1,6 +1,6 @@
 use Rattle.std.proofs.Common.{◌≡◌, ◌+◌, ◌-◌, ◌^◌, min, arith}
 use Rattle.std.proofs.lemmas.Result.{err_from_is_err_and}
-use Rattle.dz_terms.specs.Ranked.{symbols_under}
+use Rattle.dz_monomials.specs.Ranked.{symbols_under}
 use Rattle.dz_diff.specs.Operations.{setting_of}
 use Rattle.dz_diff.specs.States.{state_in}
 use Rattle.dz_tree.specs.ChainParts.{IsForPair, is_within}

@@ -1,6 +1,6 @@
 use Rattle.std.proofs.Common.{◌≡◌, drop}
 use Rattle.std.specs.List.{list_all}
-use Rattle.dz_terms.specs.Ranked.{symbols_under}
+use Rattle.dz_monomials.specs.Ranked.{symbols_under}
 use Rattle.dz_diff.specs.States.{polynomials, state_in}
 use Rattle.dz_tree.specs.Chain.{is_reduced}
 use Rattle.dz_tree.proofs.inequations.are_reduced.Given as goal

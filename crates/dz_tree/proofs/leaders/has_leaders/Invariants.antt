@@ -1,5 +1,5 @@
 use Rattle.std.proofs.Common.{◌≡◌, drop}
-use Rattle.dz_terms.specs.Ranked.{symbols_under}
+use Rattle.dz_monomials.specs.Ranked.{symbols_under}
 use Rattle.dz_diff.specs.States.{polynomials}
 use Rattle.dz_tree.specs.Chain.{has_leaders}
 use Rattle.dz_tree.proofs.leaders.has_leaders.Given as goal

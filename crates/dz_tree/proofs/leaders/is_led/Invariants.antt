@@ -1,7 +1,7 @@
 use Rattle.std.proofs.Common.{◌≡◌, drop}
 use Rattle.std.specs.List.{list_any}
 use Rattle.dz_algebra.specs.Parts.{leader}
-use Rattle.dz_terms.specs.Ranked.{symbols_under}
+use Rattle.dz_monomials.specs.Ranked.{symbols_under}
 use Rattle.dz_diff.specs.States.{polynomials}
 use Rattle.dz_diff.specs.Tests.{same_symbol}
 use Rattle.dz_tree.specs.Chain.{passes}

@@ -6,7 +6,7 @@ use Rattle.dz_poly.proofs.Books.{IsKept-append}
 use Rattle.dz_poly.proofs.book.Book.keep.Goals as goal
 
 pub invariant_of-self-2 : goal.invariant_of-self-2
-invariant_of-self-2 c = rw c.in_ok-push.ensures.items (All-push (λ e. IsEntry c.self.inside.ranking e.terms.items e.degrees.items) c.self.inside.entries.items c.args.entry c.self.invariant (subst (λ b. IsEntry b.ranking c.args.entry.terms.items c.args.entry.degrees.items) (sym c.self.view_is) c.requires))
+invariant_of-self-2 c = rw c.in_ok-push.ensures.items (All-push (λ e. IsEntry c.self.inside.ranking e) c.self.inside.entries.items c.args.entry c.self.invariant (subst (λ b. IsEntry b.ranking c.args.entry) (sym c.self.view_is) c.requires))
 
 pub returns-clause-kept : goal.returns-clause-kept
 returns-clause-kept c =

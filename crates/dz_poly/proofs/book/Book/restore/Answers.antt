@@ -5,7 +5,7 @@ use Rattle.dz_terms.specs.Entries.{IsEntry}
 use Rattle.dz_poly.proofs.book.Book.restore.Goals as goal
 
 pub invariant_of-self : goal.invariant_of-self
-invariant_of-self c = rw c.truncate.ensures.items (All-take (λ e. IsEntry c.self.inside.ranking e.terms.items e.degrees.items) c.mark.inside.count _ c.self.invariant)
+invariant_of-self c = rw c.truncate.ensures.items (All-take (λ e. IsEntry c.self.inside.ranking e) c.mark.inside.count _ c.self.invariant)
 
 pub returns : goal.returns
 returns c = rw (← c.self.view_is, ← c.mark.view_is, c.truncate.ensures.items, take-map) refl

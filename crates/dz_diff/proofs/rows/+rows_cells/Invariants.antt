@@ -1,5 +1,0 @@
-use Rattle.std.proofs.Common.{length}
-use Rattle.dz_diff.proofs.rows.+rows_cells.Given as goal
-
-abbrev pub decreases-rows_cells : goal.decreases-rows_cells
-decreases-rows_cells l = length l.rates.now

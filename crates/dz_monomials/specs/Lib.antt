@@ -1,0 +1,15 @@
+pub mod Ranked
+pub mod Degrees
+pub mod Keeping
+pub mod Stops
+pub mod Cells
+pub mod Merging
+pub mod Signs
+pub mod Supports
+pub mod Joinings
+pub mod Terms
+pub mod Divisions
+pub mod Lists
+pub mod Rows
+pub mod InPlace
+pub mod PowerDivision

@@ -1,4 +1,0 @@
-pub mod Searching
-pub mod Changes
-pub mod Answers
-pub mod Negated
