@@ -3,13 +3,13 @@ use Rattle.std.specs.Prelude.{⊤}
 use Rattle.std.proofs.Common.{◌≡◌, ℕ, suc, ◌+◌, ◌≤◌, nat_le, Bool, true, false, if◌then◌else◌, List, [], ◌∷◌, ◌++◌, length, filter, None, Result, Ok, Err, IsOk, refl, ap, subst, ◌∙◌, arith}
 use Rattle.std.proofs.lemmas.List.{length-append, length-map}
 use Rattle.std.proofs.lemmas.List.Elements.{filter-append}
-use Rattle.dz_diff.specs.Lists.{AllOf}
+use Rattle.dz_monomials.specs.Lists.{AllOf}
 use Rattle.dz_diff.specs.Operations.{setting_of}
-use Rattle.dz_diff.specs.Outcome.{◌>>=◌, needs, told_as}
+use Rattle.dz_algebra.specs.Outcome.{◌>>=◌, needs, told_as}
 use Rattle.dz_diff.specs.State.{State}
-use Rattle.dz_diff.proofs.Answers.{bind_ok, ok_same, then_ok, told_ok}
+use Rattle.dz_algebra.proofs.Outcomes.{bind_ok, ok_same, then_ok, told_ok}
 use Rattle.dz_rank.specs.Rankings.{RankingValue}
-use Rattle.dz_terms.specs.Ranked.{symbols_under}
+use Rattle.dz_monomials.specs.Ranked.{symbols_under}
 use Rattle.dz_check.specs.Certified.{IsCertified}
 use Rattle.dz_tree.specs.Chain.{chain_weight}
 use Rattle.dz_move.specs.Lines.{Evidence, Line, act, closed, chain, pair, spent, spent_pairs, open_wide, open_separant, open_large, Entry, entries_of, is_chain_line}

@@ -4,7 +4,7 @@ use Rattle.std.specs.Fmt.{digits}
 use Rattle.dz_algebra.specs.Norm.{norm, gcd}
 use Rattle.dz_algebra.specs.Size.{support, fits, refusal, operation}
 use Rattle.dz_rank.specs.Rankings.{ranking_cmp}
-use Rattle.dz_terms.specs.Ranked.{symbol_rate}
+use Rattle.dz_monomials.specs.Ranked.{symbol_rate}
 use Rattle.dz_move.specs.Root.{root_of}
 use Rattle.dz_form.specs.Texts.{operator_text, polynomial_text, symbol_text}
 use Rattle.dz_form.specs.Reading.{derivations, derivative_at, operator_at, symbol_at, with_name}

@@ -2,7 +2,6 @@ pub mod Numbers
 pub mod WrittenSteps
 pub mod LastChain
 pub mod SameTexts
-pub mod CertifiedDocuments
 pub mod DocumentLines
 pub mod WrittenLines
 pub mod Found

@@ -9,7 +9,7 @@ use Rattle.std.proofs.lemmas.List.{length-append}
 use Rattle.std.proofs.lemmas.List.Elements.{All-head, All-tail}
 use Rattle.dz_algebra.specs.Monomial.{Monomial}
 use Rattle.dz_algebra.specs.Polynomial.{Polynomial}
-use Rattle.dz_diff.specs.Lists.{AllOf}
+use Rattle.dz_monomials.specs.Lists.{AllOf}
 use Rattle.dz_diff.specs.State.{State}
 use Rattle.dz_rank.specs.Rankings.{RankingValue}
 use Rattle.dz_rank.specs.Symbols.{BelongsTo}
@@ -18,7 +18,7 @@ use Rattle.dz_rank.specs.declared.symbols.Symbol.TheVariants.{Independent, Deriv
 use Rattle.dz_syntax.specs.Expressions.{most_literal}
 use Rattle.dz_syntax.specs.Names.{Declared, IsDeclared, IsName, begins_with_letter, signature_of}
 use Rattle.dz_syntax.specs.Tokens.{is_name_byte}
-use Rattle.dz_terms.specs.Entries.{IsKeepable}
+use Rattle.dz_monomials.specs.Keeping.{IsKeepable}
 use Rattle.dz_form.proofs.FitPowers.{keepable_writable}
 use Rattle.dz_form.specs.Texts.{IsReadablePower, IsReadableTerm, IsWritable, is_identity, joined, more_terms_text, name_numbered, number_text, polynomial_text, power_text, powers_text, symbol_text, term_text, derivations_text}
 use Rattle.dz_move.specs.Standing.{IsStateOver}

@@ -3,7 +3,7 @@ use Rattle.std.proofs.Common.{◌≡◌, ◌≤◌, ℕ, List, [], ◌∷◌, ma
 use Rattle.std.specs.List.{AllByRecursion}
 use Rattle.std.proofs.lemmas.List.{length-map}
 use Rattle.std.proofs.lemmas.List.Elements.{All-head, All-tail}
-use Rattle.dz_diff.specs.Lists.{AllOf}
+use Rattle.dz_monomials.specs.Lists.{AllOf}
 use Rattle.dz_diff.specs.Operations.{setting_of}
 use Rattle.dz_diff.specs.State.{State}
 use Rattle.dz_diff.specs.States.{LiveAll, polynomials}
@@ -11,7 +11,7 @@ use Rattle.dz_poly.specs.Books.{BookValue, IsBook, Lives}
 use Rattle.dz_rank.specs.Rankings.{RankingValue}
 use Rattle.dz_rank.specs.declared.rankings.Signature.{Signature}
 use Rattle.dz_syntax.specs.Names.{Declared, IsDeclared, signature_of}
-use Rattle.dz_terms.specs.Entries.{IsKeepable}
+use Rattle.dz_monomials.specs.Keeping.{IsKeepable}
 use Rattle.dz_check.specs.Certified.{IsCertified}
 use Rattle.dz_move.specs.Root.{System}
 use Rattle.dz_move.specs.Standing.{IsStateOver}

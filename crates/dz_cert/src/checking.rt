@@ -3,7 +3,7 @@
 ghost use Rattle.std.specs.List.{AllByRecursion};
 ghost use Rattle.std.specs.Prelude.{◌≡◌, ℕ, List, true, map, All, IfOk};
 ghost use Rattle.std.specs.Str.{bytes_eq};
-ghost use Rattle.dz_cert.specs.Documents.{IsDocument, canonical_texts, chain_texts, document_of};
+ghost use Rattle.dz_cert.specs.Documents.{IsDocument, canonical_texts, document_of};
 ghost use Rattle.dz_cert.specs.LineTexts.{IsLineOf};
 ghost use Rattle.dz_cert.specs.Readers.{texts_of};
 ghost use Rattle.dz_cert.specs.Verdicts.{are_same, document_verdict, first_other};
@@ -11,13 +11,13 @@ ghost use Rattle.dz_cert.specs.Verdicts.{has_canonical_texts, is_same, judged_by
 ghost use Rattle.dz_diff.specs.Operations.{setting_of};
 ghost use Rattle.dz_diff.specs.States.{LiveAll, StandsIn, polynomials, state_in};
 ghost use Rattle.dz_form.specs.Texts.{polynomial_text};
-ghost use Rattle.dz_poly.specs.Books.{IsKept, Lives, polynomial};
+ghost use Rattle.dz_poly.specs.Books.{Lives, polynomial};
 ghost use Rattle.dz_syntax.specs.Names.{signature_of};
-ghost use Rattle.dz_check.specs.Certified.{IsCertified};
+ghost use Rattle.dz_check.specs.Verdicts.{verdict_as};
 ghost use Rattle.dz_move.specs.Systems.{IsSystemIn, system_in};
 
 use crate::document::{ChainText, Document, Text};
-use dz_check::{Verdict, chains, check};
+use dz_check::{Checked, Verdict, check_with_chains};
 use dz_diff::State;
 use dz_form::write_poly;
 use dz_move::{Rule, System};
@@ -127,28 +127,6 @@ fn first_other(
     Ok(None)
 }
 
-/// The number of the first chain of a certified tree whose texts are not canonical, where the
-/// polynomials that are made on the way stay in the book.
-fn other_chain(
-    alloc: Global,
-    book: &mut Book,
-    names: &Names,
-    system: &System,
-    document: &Document,
-) -> Result<Option<usize>, AllocError>
-    requires system { IsSystemIn book.old system.now }
-    requires certified { IsCertified (setting_of book.old.ranking)
-        (system_in book.old system.now) document.now.tree }
-    requires signature { signature_of names.now ≡ book.old.ranking.signature }
-    ensures other { IfOk result (λ other. other ≡ first_other 1
-        (map texts_of document.now.chains.items) (chain_texts (setting_of book.old.ranking)
-        names.now (system_in book.old system.now) document.now.tree)) }
-    ensures kept { IsKept book.old book.new }
-{
-    let states = chains(alloc, book, system, &document.tree)?;
-    first_other(alloc, book, names, &states, &document.chains)
-}
-
 /// What is told of a document whose tree is certified, by the first chain with other texts.
 fn judged_texts(verdict: DocumentVerdict, other: Option<usize>) -> DocumentVerdict
     ensures { result ≡ judged_texts verdict other }
@@ -159,69 +137,14 @@ fn judged_texts(verdict: DocumentVerdict, other: Option<usize>) -> DocumentVerdi
     }
 }
 
-/// What is told of a document whose tree is certified, by its texts.
-fn texts_judged(
-    alloc: Global,
-    book: &mut Book,
-    names: &Names,
-    system: &System,
-    document: &Document,
-    verdict: DocumentVerdict,
-) -> Result<DocumentVerdict, AllocError>
-    requires system { IsSystemIn book.old system.now }
-    requires certified { IsCertified (setting_of book.old.ranking)
-        (system_in book.old system.now) document.now.tree }
-    requires signature { signature_of names.now ≡ book.old.ranking.signature }
-    ensures verdict { IfOk result (λ v. v ≡ judged_texts verdict (first_other 1
-        (map texts_of document.now.chains.items) (chain_texts (setting_of book.old.ranking)
-        names.now (system_in book.old system.now) document.now.tree))) }
-    ensures kept { IsKept book.old book.new }
+/// What is told of a document, by the verdict on its tree and the first chain with other texts.
+fn judged_by(verdict: Verdict, other: Option<usize>) -> DocumentVerdict
+    ensures { result ≡ judged_by other (verdict_as verdict) }
 {
-    let other = other_chain(alloc, book, names, system, document)?;
-    Ok(judged_texts(verdict, other))
-}
-
-/// The verdict on a document for a system, where the polynomials that are made on the way stay in
-/// the book.
-#[tactic(auto, unfolding(crate::specs::Verdicts::document_verdict))]
-fn judged(
-    alloc: Global,
-    book: &mut Book,
-    names: &Names,
-    system: &System,
-    document: &Document,
-) -> Result<DocumentVerdict, AllocError>
-    requires system { IsSystemIn book.old system.now }
-    requires named { AllByRecursion (λ line. IsLineOf names.now line) document.now.tree.lines }
-    requires signature { signature_of names.now ≡ book.old.ranking.signature }
-    ensures verdict { IfOk result (λ v. v ≡ document_verdict (setting_of book.old.ranking)
-        names.now (system_in book.old system.now) document.now.tree
-        (map texts_of document.now.chains.items)) }
-    ensures kept { IsKept book.old book.new }
-{
-    document.tree.opened();
-    match check(alloc, book, system, &document.tree)? {
-        Verdict::Accepted => {
-            texts_judged(
-                alloc,
-                book,
-                names,
-                system,
-                document,
-                DocumentVerdict::Accepted,
-            )
-        }
-        Verdict::Partial => {
-            texts_judged(
-                alloc,
-                book,
-                names,
-                system,
-                document,
-                DocumentVerdict::Partial,
-            )
-        }
-        Verdict::Rejected { place, rule } => Ok(DocumentVerdict::RejectedTree { place, rule }),
+    match verdict {
+        Verdict::Accepted => judged_texts(DocumentVerdict::Accepted, other),
+        Verdict::Partial => judged_texts(DocumentVerdict::Partial, other),
+        Verdict::Rejected { place, rule } => DocumentVerdict::RejectedTree { place, rule },
     }
 }
 
@@ -249,7 +172,8 @@ pub fn check_document(
 {
     document.tree.opened();
     let mark = book.mark();
-    let verdict = judged(alloc, book, names, system, document);
+    let Checked { verdict, chains } = check_with_chains(alloc, book, system, &document.tree)?;
+    let other = first_other(alloc, book, names, &chains, &document.chains);
     book.restore(mark);
-    verdict
+    Ok(judged_by(verdict, other?))
 }

@@ -10,7 +10,7 @@ ghost use Rattle.dz_cert.specs.LineTexts.{IsLineOf, line_text};
 ghost use Rattle.dz_diff.specs.Operations.{setting_of};
 ghost use Rattle.dz_diff.specs.States.{LiveAll, StandsIn, polynomials, state_in};
 ghost use Rattle.dz_form.specs.Texts.{polynomial_text};
-ghost use Rattle.dz_poly.specs.Books.{IsKept, Lives, polynomial};
+ghost use Rattle.dz_poly.specs.Books.{Lives, polynomial};
 ghost use Rattle.dz_syntax.specs.Names.{signature_of};
 ghost use Rattle.dz_check.specs.Certified.{IsCertified};
 ghost use Rattle.dz_tree.specs.Forms.{is_spelled};
@@ -173,31 +173,9 @@ pub fn write_document_with(
     Ok(text)
 }
 
-/// The document of a certified tree, where the polynomials that are made on the way stay in the
-/// book.
-#[tactic(auto, unfolding(crate::specs::Documents::document_of))]
-fn document_from(
-    alloc: Global,
-    book: &mut Book,
-    names: &Names,
-    system: &System,
-    tree: &Tree,
-) -> Result<Vec<u8>, AllocError>
-    requires system { IsSystemIn book.old system.now }
-    requires certified { IsCertified (setting_of book.old.ranking)
-        (system_in book.old system.now) tree.now }
-    requires named { AllByRecursion (λ line. IsLineOf names.now line) tree.now.lines }
-    requires signature { signature_of names.now ≡ book.old.ranking.signature }
-    ensures document { IfOk result (λ text. text.items ≡ document_of (setting_of book.old.ranking)
-        names.now (system_in book.old system.now) tree.now) }
-    ensures kept { IsKept book.old book.new }
-{
-    let states = chains(alloc, book, system, tree)?;
-    write_document_with(alloc, book, names, tree, &states)
-}
-
 /// The document of a certified tree for a system: its lines, and the canonical texts of the states
 /// of its chains.
+#[tactic(auto, unfolding(crate::specs::Documents::document_of))]
 pub fn write_document(
     alloc: Global,
     book: &mut Book,
@@ -221,7 +199,8 @@ pub fn write_document(
     book.opened();
     names.opened();
     let mark = book.mark();
-    let text = document_from(alloc, book, names, system, tree);
+    let states = chains(alloc, book, system, tree)?;
+    let text = write_document_with(alloc, book, names, tree, &states);
     book.restore(mark);
     text
 }

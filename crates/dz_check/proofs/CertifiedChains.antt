@@ -5,12 +5,12 @@ use Rattle.std.proofs.Common.{◌≡◌, ◌∙◌, ◌&&◌, ◌==◌, ◌++◌
 use Rattle.std.proofs.lemmas.Bool.{eqb-true}
 use Rattle.dz_algebra.specs.Polynomial.{Polynomial}
 use Rattle.dz_rank.specs.declared.symbols.Symbol.{Symbol}
-use Rattle.dz_diff.specs.Lists.{AllOf}
+use Rattle.dz_monomials.specs.Lists.{AllOf}
 use Rattle.dz_diff.specs.Operations.{Setting}
-use Rattle.dz_diff.specs.Outcome.{◌>>=◌, needs, numbered, told_as}
+use Rattle.dz_algebra.specs.Outcome.{◌>>=◌, needs, numbered, told_as}
 use Rattle.dz_diff.specs.State.{State, at_place}
 use Rattle.dz_diff.specs.Tests.{is_zero}
-use Rattle.dz_diff.proofs.Answers.{both, bind_ok, given_then, ok_same, then_ok, told_ok}
+use Rattle.dz_algebra.proofs.Outcomes.{both, bind_ok, given_then, ok_same, then_ok, told_ok}
 use Rattle.dz_diff.proofs.Places.{all-append}
 use Rattle.dz_step.specs.declared.Role.TheVariants.{Free}
 use Rattle.dz_step.specs.Run.{run}

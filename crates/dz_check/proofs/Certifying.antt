@@ -2,11 +2,11 @@
 use Rattle.std.specs.Prelude.{⊤}
 use Rattle.std.proofs.Common.{◌≡◌, ◌↔◌, ℕ, ◌+◌, ◌≤◌, nat_le, Bool, true, false, cond, List, [], ◌∷◌, ◌++◌, length, refl, sym, ap, ◌∙◌, subst, Result, Ok, Err, IsOk}
 use Rattle.std.proofs.lemmas.Bool.{leb-true, le-leb}
-use Rattle.dz_diff.specs.Outcome.{◌>>=◌, needs, told_as}
+use Rattle.dz_algebra.specs.Outcome.{◌>>=◌, needs, told_as}
 use Rattle.dz_diff.specs.Operations.{Setting}
 use Rattle.dz_diff.specs.State.{State}
 use Rattle.dz_move.specs.Root.{System, is_closed, root_of}
-use Rattle.dz_diff.proofs.Answers.{bind_ok, told_ok, then_ok, ok_same}
+use Rattle.dz_algebra.proofs.Outcomes.{bind_ok, told_ok, then_ok, ok_same}
 use Rattle.dz_move.specs.declared.Rule.{Rule}
 use Rattle.dz_move.specs.declared.Rule.TheVariants as rules
 use Rattle.dz_move.specs.Moves.{perform}

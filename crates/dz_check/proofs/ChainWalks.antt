@@ -6,25 +6,27 @@ use Rattle.std.proofs.lemmas.List.Elements.{All-cons, All-head, All-nil, All-pus
 use Rattle.dz_rank.specs.Rankings.{RankingValue}
 use Rattle.dz_poly.specs.Books.{BookValue, IsKept}
 use Rattle.dz_poly.proofs.Books.{kept_itself, kept_trans}
-use Rattle.dz_terms.specs.Ranked.{symbols_under}
-use Rattle.dz_diff.specs.Lists.{AllOf}
+use Rattle.dz_monomials.specs.Ranked.{symbols_under}
+use Rattle.dz_monomials.specs.Lists.{AllOf}
 use Rattle.dz_diff.specs.Operations.{Setting, setting_of}
-use Rattle.dz_diff.specs.Outcome.{◌>>=◌, needs, told_as}
+use Rattle.dz_algebra.specs.Outcome.{◌>>=◌, needs, told_as}
 use Rattle.dz_move.specs.Root.{System, is_closed, root_of}
 use Rattle.dz_diff.specs.State.{State}
 use Rattle.dz_diff.specs.States.{IsStateOf, StandsIn, StateValue, state_in}
-use Rattle.dz_diff.proofs.Answers.{bind_ok, ok_same, then_ok, told_ok}
+use Rattle.dz_algebra.proofs.Outcomes.{bind_ok, ok_same, then_ok, told_ok}
 use Rattle.dz_diff.proofs.KeptStates.{kept_state, stands_on}
 use Rattle.dz_move.specs.declared.Rule.{Rule}
 use Rattle.dz_move.specs.declared.drafts.Performed.{Performed}
 use Rattle.dz_check.specs.declared.entering.Left.{Left}
 use Rattle.dz_check.specs.declared.entering.Left.TheVariants as kinds
+use Rattle.dz_check.specs.declared.entering.Outcome.{Outcome}
+use Rattle.dz_check.specs.Leaving.{Leaves, below_in}
 use Rattle.dz_move.specs.declared.fault.ActionStop.{ActionStop}
 use Rattle.dz_move.specs.declared.fault.MoveFault.TheVariants.{Memory}
 use Rattle.dz_move.specs.Actions.{IsActionStop, IsPerformed, reached_in, stop_in}
 use Rattle.dz_check.specs.Certified.{IsCertified}
 use Rattle.dz_tree.specs.Chain.{chain_weight}
-use Rattle.dz_check.specs.Collecting.{AreCollected, Holds, IsCollecting, LeavesAgain, marked}
+use Rattle.dz_check.specs.Collecting.{AreCollected, CollectsOn, Holds, IsCollecting, LeavesAgain, chain_at, marked}
 use Rattle.dz_tree.specs.Counting.{trees_after}
 use Rattle.dz_tree.specs.EvidenceLines.{is_pair_line}
 use Rattle.dz_move.specs.Lines.{Evidence, Line, act, closed, chain, pair, spent, spent_pairs, open_wide, open_separant, open_large, Entry, entries_of, grouped, is_chain_line}
@@ -105,6 +107,34 @@ module _ (g : Setting) (s : State) (line : Line) (action : Action) (is_line : li
       none : ◌≡◌ {A = Option ActionStop} None (Some stop) → ⊥
       none e = cc
 
+-- whenever an entry holds it leaves the same states
+none_again : (g : Setting) (s : State) (line : Line) → is_act line ≡ false → (h k : Holds g s line) → (h.below).states ≡ (k.below).states
+none_again g s line e h k =
+    no_elements (h.below).states (left_states g h.budget h.weight s line h.evidence h.below h.is ∙ none_after line e)
+    ∙ sym (no_elements (k.below).states (left_states g k.budget k.weight s line k.evidence k.below k.is ∙ none_after line e))
+
+same_states : (g : Setting) (s : State) (line : Line) (h k : Holds g s line) → (h.below).states ≡ (k.below).states
+same_states g s (act action) h k =
+    let a = act_done g s action h in
+    let b = act_done g s action k in
+    a.states_are ∙ ap (λ (d : Done). d.after) (ok_same a.done b.done (sym a.is ∙ b.is)) ∙ sym b.states_are
+same_states g s closed h k = none_again g s closed refl h k
+same_states g s chain h k = none_again g s chain refl h k
+same_states g s (pair e) h k = none_again g s (pair e) refl h k
+same_states g s (spent action) h k = none_again g s (spent action) refl h k
+same_states g s spent_pairs h k = none_again g s spent_pairs refl h k
+same_states g s (open_wide action) h k = none_again g s (open_wide action) refl h k
+same_states g s (open_separant i) h k = none_again g s (open_separant i) refl h k
+same_states g s (open_large limit action) h k = none_again g s (open_large limit action) refl h k
+
+-- so they are those that it was seen to leave
+pub left_once : (new : BookValue) (g : Setting) (budget w : ℕ) (s : State) (line : Line) (es : List Evidence) (x : Outcome) → Leaves new line s x (entered g budget w s line es) → LeavesAgain new g s line x.left
+left_once new g budget w s line es x h = record {
+  same = λ k. same_states g s line k (record { budget = budget; weight = w; evidence = es; below = below_in new line s x; is = h.is });
+  stand = h.stand;
+  facts = h.facts;
+}
+
 -- ---- the ends of a walk
 -- a walk by its first entry
 record IsFirst (g : Setting) (budget w place : ℕ) (s : State) (pending : List State) (line : Line) (es : List Evidence) (rest : List Entry) (ends : List End) : Type 0 where
@@ -161,7 +191,7 @@ module _ (g : Setting) (budget w : ℕ) (s : State) where
 -- ---- pending states with one mark
 module _ (big : BookValue) where
   -- they stand in the whole book
-  marked_stacked : (floor : BookValue) (ps : List PendingValue) (book : BookValue) → StackedIn floor book ps → IsKept book big → StackedIn big big (map (marked (length big.polynomials)) ps)
+  pub marked_stacked : (floor : BookValue) (ps : List PendingValue) (book : BookValue) → StackedIn floor book ps → IsKept book big → StackedIn big big (map (marked (length big.polynomials)) ps)
   marked_stacked floor [] book h keeps = kept_itself big
   marked_stacked floor (p ∷ ps) book h keeps =
       let all = kept_trans (cut p.mark book) book big (cut_kept p.mark book h.0) keeps in
@@ -170,7 +200,7 @@ module _ (big : BookValue) where
       (marked_stacked floor ps (cut p.mark book) h.3 all)
 
   -- and are the same
-  marked_states : (floor : BookValue) (ps : List PendingValue) (book : BookValue) → StackedIn floor book ps → IsKept book big → pending_states big (map (marked (length big.polynomials)) ps) ≡ pending_states book ps
+  pub marked_states : (floor : BookValue) (ps : List PendingValue) (book : BookValue) → StackedIn floor book ps → IsKept book big → pending_states big (map (marked (length big.polynomials)) ps) ≡ pending_states book ps
   marked_states floor [] book h keeps = refl
   marked_states floor (p ∷ ps) book h keeps =
       let all = kept_trans (cut p.mark book) book big (cut_kept p.mark book h.0) keeps in
@@ -189,6 +219,15 @@ carried floor new keeps (t ∷ ts) stand facts =
 same_taken : (floor new : BookValue) → IsKept floor new → (ts : List StateValue) → All (StandsIn floor) ts → map (state_in new) ts ≡ map (state_in floor) ts
 same_taken floor new keeps [] stand = refl
 same_taken floor new keeps (t ∷ ts) stand = ap₂ (λ (x : State) (xs : List State). x ∷ xs) (kept_state floor new keeps t (All-head (StandsIn floor) t ts stand)) (same_taken floor new keeps ts (All-tail (StandsIn floor) t ts stand))
+
+-- those that are taken, in a book that has grown
+grown_collected : (base floor new : BookValue) → IsKept floor new → (whole : List State) (taken : List StateValue) → AreCollected base floor whole taken → AreCollected base new whole taken
+grown_collected base floor new keeps whole taken c = record {
+  keeps = kept_trans base floor new c.keeps keeps;
+  stand = All-weaker (StandsIn floor) (StandsIn new) (λ t h. stands_on floor new keeps t h) taken c.stand;
+  facts = carried floor new keeps taken c.stand c.facts;
+  are = same_taken floor new keeps taken c.stand ∙ c.are;
+}
 
 -- one more is taken
 one_more : (base floor new : BookValue) (before : List State) (taken : List StateValue) → AreCollected base floor before taken → IsKept floor new → (at : BookValue) (t : StateValue) → StandsIn at t → IsStateOf (symbols_under at.ranking) (state_in at t) → IsKept at new
@@ -310,6 +349,14 @@ module _ (g : Setting) (base : BookValue) (whole : List State) (book : BookValue
         all_are = append_assoc c.before (s ∷ []) (chains_of first.more) ∙ ap (λ (ss : List State). c.before ++ ss) (sym (chains_left true e)) ∙ c.all_are;
       }
 
+      -- behind any line, where a chain is still to be taken
+      pub taken_on : CollectsOn base g whole new stack taken (chain_at line top.state) lines
+      taken_on = by_test (is_chain_line line) refl
+        where
+          by_test : (b : Bool) → is_chain_line line ≡ b → CollectsOn base g whole new stack taken (cond b (Some top.state) None) lines
+          by_test true e = record { mark = length new.polynomials; is = one_taken e }
+          by_test false e = record { mark = mark; is = none_taken e }
+
 -- the mark, the stack and the states that are taken, as they are then
 pub collecting_is : (base : BookValue) (g : Setting) (whole : List State) (book : BookValue) (lines : List Line) (m n : ℕ) (qs rs : List PendingValue) (ss ts : List StateValue)
     → m ≡ n → qs ≡ rs → ss ≡ ts → IsCollecting base g whole book n rs ts lines → IsCollecting base g whole book m qs ss lines
@@ -364,6 +411,10 @@ module _ (base : BookValue) (g : Setting) (whole : List State) (book : BookValue
       no_ends : (ss : List State) (ends : List End) → walk g c.budget c.weight c.place ss [] ≡ Ok ends → ends ≡ []
       no_ends [] ends e = sym (ok_same [] ends e)
       no_ends (s ∷ ss) ends e = cc
+
+  -- and in all of it
+  pub all_taken : IsCollecting base g whole book mark stack taken [] → AreCollected base book whole taken
+  all_taken c = grown_collected base (cut mark book) book (cut_kept mark book (mark_inside [] c)) whole taken (all_collected c)
 
 -- by the ranking of another book
 pub collecting_by : (base : BookValue) (r q : RankingValue) → q ≡ r → (whole : List State) (book : BookValue) (mark : ℕ) (stack : List PendingValue) (taken : List StateValue) (lines : List Line)

@@ -4,14 +4,14 @@ use Rattle.std.proofs.Common.{◌≡◌, ◌≤◌, ◌<◌, ◌+◌, ◌-◌, �
 use Rattle.std.proofs.lemmas.Bool.{leb-true, le-leb}
 use Rattle.std.proofs.lemmas.Bool.Decides.{nat_tests}
 use Rattle.dz_poly.specs.Books.{BookValue}
-use Rattle.dz_terms.specs.Ranked.{symbols_under}
-use Rattle.dz_diff.specs.Lists.{AllOf}
+use Rattle.dz_monomials.specs.Ranked.{symbols_under}
+use Rattle.dz_monomials.specs.Lists.{AllOf}
 use Rattle.dz_diff.specs.Operations.{Setting}
-use Rattle.dz_diff.specs.Outcome.{◌>>=◌, needs, numbered, told_as}
+use Rattle.dz_algebra.specs.Outcome.{◌>>=◌, needs, numbered, told_as}
 use Rattle.dz_move.specs.Root.{is_closed}
 use Rattle.dz_diff.specs.State.{State}
 use Rattle.dz_diff.specs.States.{IsStateOf}
-use Rattle.dz_diff.proofs.Answers.{bind_ok, ok_same, then_ok, told_ok}
+use Rattle.dz_algebra.proofs.Outcomes.{bind_ok, ok_same, then_ok, told_ok}
 use Rattle.dz_move.specs.declared.Rule.{Rule}
 use Rattle.dz_move.specs.declared.Rule.TheVariants as rules
 use Rattle.dz_move.specs.declared.drafts.Performed.{Performed}

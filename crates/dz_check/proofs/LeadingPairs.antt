@@ -2,7 +2,7 @@
 use Rattle.std.proofs.Common.{◌≡◌, ◌≤◌, ◌∙◌, arith, ℕ, zero, suc, true, List, [], ◌∷◌, map, take, length, refl, sym, ap, subst}
 use Rattle.std.specs.List.{list_all}
 use Rattle.std.proofs.lemmas.List.{length-map, take-map}
-use Rattle.dz_diff.specs.Lists.{AllOf}
+use Rattle.dz_monomials.specs.Lists.{AllOf}
 use Rattle.dz_move.specs.declared.lines.Line.{Line as ProgramLine}
 use Rattle.dz_tree.specs.EvidenceLines.{evidence_of, is_pair_line}
 use Rattle.dz_step.specs.StepOperators.{DeriveAlong}

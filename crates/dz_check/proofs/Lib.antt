@@ -10,3 +10,4 @@ pub mod LeadingPairs
 pub mod Walks
 pub mod WalkedLines
 pub mod ChainWalks
+pub mod TakenChains

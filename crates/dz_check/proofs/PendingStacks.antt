@@ -7,7 +7,7 @@ use Rattle.dz_rank.specs.Rankings.{RankingValue}
 use Rattle.dz_rank.specs.declared.symbols.Symbol.{Symbol}
 use Rattle.dz_poly.specs.Books.{BookValue, IsKept}
 use Rattle.dz_poly.proofs.Books.{kept_trans}
-use Rattle.dz_terms.specs.Ranked.{symbols_under}
+use Rattle.dz_monomials.specs.Ranked.{symbols_under}
 use Rattle.dz_diff.specs.States.{IsStateOf, StandsIn, StateValue, state_in}
 use Rattle.dz_check.specs.Pending.{PendingValue, StackedIn, cut, pending_states}
 

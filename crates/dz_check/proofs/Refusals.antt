@@ -6,9 +6,9 @@ use Rattle.dz_algebra.specs.Size.{Refusal, wide, large, separant_answer}
 use Rattle.dz_algebra.specs.Symbols.{Symbols}
 use Rattle.dz_algebra.specs.declared.Limit.{Limit}
 use Rattle.dz_rank.specs.declared.symbols.Symbol.{Symbol}
-use Rattle.dz_terms.specs.Stops.{IsStop}
-use Rattle.dz_terms.specs.declared.PolyStop.TheVariants as stops
-use Rattle.dz_diff.specs.Outcome.{numbered, told_as}
+use Rattle.dz_monomials.specs.Stops.{IsStop}
+use Rattle.dz_monomials.specs.declared.PolyStop.TheVariants as stops
+use Rattle.dz_algebra.specs.Outcome.{numbered, told_as}
 use Rattle.dz_tree.specs.Chain.{passes}
 use Rattle.dz_move.specs.Fault.{refusal}
 use Rattle.dz_check.specs.Reasons.{is_wide, refused_after, separant_refused}

@@ -7,13 +7,13 @@ use Rattle.std.proofs.lemmas.List.{length-drop, take_all}
 use Rattle.dz_rank.specs.Rankings.{RankingValue}
 use Rattle.dz_poly.specs.Books.{BookValue, IsKept}
 use Rattle.dz_poly.proofs.Books.{kept_itself}
-use Rattle.dz_terms.specs.Ranked.{symbols_under}
-use Rattle.dz_diff.specs.Lists.{AllOf}
+use Rattle.dz_monomials.specs.Ranked.{symbols_under}
+use Rattle.dz_monomials.specs.Lists.{AllOf}
 use Rattle.dz_diff.specs.Operations.{Setting, setting_of}
 use Rattle.dz_move.specs.Root.{System, root_of}
 use Rattle.dz_diff.specs.State.{State}
 use Rattle.dz_diff.specs.States.{IsStateOf, StandsIn, StateValue, state_in}
-use Rattle.dz_diff.proofs.Answers.{both}
+use Rattle.dz_algebra.proofs.Outcomes.{both}
 use Rattle.dz_move.specs.declared.Rule.{Rule}
 use Rattle.dz_move.specs.declared.lines.Line.{Line as ProgramLine}
 use Rattle.dz_tree.specs.declared.forming.Expected.{Expected}
@@ -27,7 +27,7 @@ use Rattle.dz_move.specs.Lines.{Evidence, Line, act, closed, chain, pair, spent,
 use Rattle.dz_check.specs.Pending.{PendingValue, pending_states}
 use Rattle.dz_move.specs.TreeLines.{line_of}
 use Rattle.dz_tree.specs.Trees.{Tree}
-use Rattle.dz_check.specs.Walk.{End, accepted, partial, ends_of, judged, verdict_of, walk}
+use Rattle.dz_check.specs.Walk.{End, accepted, partial, ends_of, judged, walk}
 use Rattle.dz_check.specs.Walking.{IsWalking, judged_after, verdict_from}
 use Rattle.dz_check.proofs.PendingStacks.{pushed, whole_cut}
 use Rattle.dz_tree.proofs.TreeForms.{one_tree}
@@ -53,7 +53,7 @@ pub operators_behind : (n : ℕ) (lines : List ProgramLine) (k : ℕ) → HaveOp
 operators_behind n lines k h = subst (HaveOperatorsOf n) (sym (map_behind line_of k lines)) (all_behind (λ (line : Line). DeriveAlong n (steps_in line)) k (map line_of lines) h)
 
 -- the lines behind a place, as they are handed on
-behind_is : (lines : List ProgramLine) (k : ℕ) → take (length lines - k) (drop k lines) ≡ drop k lines
+pub behind_is : (lines : List ProgramLine) (k : ℕ) → take (length lines - k) (drop k lines) ≡ drop k lines
 behind_is lines k = let n = length-drop k lines in take_all (length lines - k) (drop k lines) (omega (arith, n))
 
 -- and their operators in a book
@@ -178,10 +178,10 @@ module _ (book : BookValue) (root : StateValue) (lines : List Line) (tree : Form
       ∙ ap (λ (k : ℕ). judged_after false (walk g budget 0 k (state_in book root ∷ []) (entries_of lines))) one
       ∙ judged_same (walk g budget 0 1 (state_in book root ∷ []) (entries_of lines))
 
--- ---- the verdict on a tree
-pub root_told : (old new : RankingValue) → new ≡ old → (system : System) (tree : Tree) (root : State) → root ≡ root_of (symbols_under old) system → (budget : ℕ) → budget ≡ tree.budget → (lines : List Line) → lines ≡ tree.lines
-    → judged (walk (setting_of new) budget 0 1 (root ∷ []) (entries_of lines)) ≡ verdict_of (setting_of old) system tree
+-- ---- a tree
+pub root_walk : (old new : RankingValue) → new ≡ old → (system : System) (tree : Tree) (root : State) → root ≡ root_of (symbols_under old) system → (budget : ℕ) → budget ≡ tree.budget → (lines : List Line) → lines ≡ tree.lines
+    → walk (setting_of new) budget 0 1 (root ∷ []) (entries_of lines) ≡ ends_of (setting_of old) system tree
 unfolding ends_of
-root_told old new same system tree root is_root budget is_budget lines are_lines =
-    ap₂ (λ (r : RankingValue) (s : State). judged (walk (setting_of r) budget 0 1 (s ∷ []) (entries_of lines))) same is_root
-    ∙ ap₂ (λ (b : ℕ) (ls : List Line). judged (walk (setting_of old) b 0 1 (root_of (symbols_under old) system ∷ []) (entries_of ls))) is_budget are_lines
+root_walk old new same system tree root is_root budget is_budget lines are_lines =
+    ap₂ (λ (r : RankingValue) (s : State). walk (setting_of r) budget 0 1 (s ∷ []) (entries_of lines)) same is_root
+    ∙ ap₂ (λ (b : ℕ) (ls : List Line). walk (setting_of old) b 0 1 (root_of (symbols_under old) system ∷ []) (entries_of ls)) is_budget are_lines

@@ -1,14 +1,14 @@
--- The walk over a certified tree for the states of its chains. No public clause cites this file.
-use Rattle.std.specs.Prelude.{◌≡◌, ℕ, List, ◌++◌, All, map, length, Ok}
+-- The walks over a tree for the states of its chains. No public clause cites this file.
+use Rattle.std.specs.Prelude.{◌≡◌, ℕ, cond, List, [], ◌∷◌, ◌++◌, All, map, length, Option, Some, None, Ok}
 use Rattle.dz_poly.specs.Books.{BookValue, IsKept}
-use Rattle.dz_terms.specs.Ranked.{symbols_under}
-use Rattle.dz_diff.specs.Lists.{AllOf}
+use Rattle.dz_monomials.specs.Ranked.{symbols_under}
+use Rattle.dz_monomials.specs.Lists.{AllOf}
 use Rattle.dz_diff.specs.Operations.{Setting}
 use Rattle.dz_diff.specs.State.{State}
 use Rattle.dz_diff.specs.States.{IsStateOf, StandsIn, StateValue, state_in}
 use Rattle.dz_check.specs.declared.entering.Left.{Left}
 use Rattle.dz_check.specs.Leaving.{LeftStand, states_left}
-use Rattle.dz_move.specs.Lines.{Evidence, Line, grouped}
+use Rattle.dz_move.specs.Lines.{Evidence, Line, grouped, is_chain_line}
 use Rattle.dz_check.specs.Pending.{PendingValue, StackedIn, pending_states}
 use Rattle.dz_check.specs.Walk.{Below, End, chains_of, entered, walk}
 
@@ -51,3 +51,24 @@ pub record IsCollecting (base : BookValue) (g : Setting) (whole : List State) (b
   pub before : List State
   pub taken_are : AreCollected base floor before taken
   pub all_are : before ++ chains_of ends ≡ whole
+
+-- so it stands, at some mark
+pub record Collects (base : BookValue) (g : Setting) (whole : List State) (book : BookValue) (stack : List PendingValue) (taken : List StateValue) (lines : List Line) : Type 0 where
+  pub mark : ℕ
+  pub is : IsCollecting base g whole book mark stack taken lines
+
+-- the state at a line, where this is a chain
+abbrev pub chain_at : Line → StateValue → Option StateValue
+chain_at line s = cond (is_chain_line line) (Some s) None
+
+-- so a walk stands as soon as a chain, if there is one, is taken: its state with the others, and no mark is below what the book
+-- has
+abbrev pub CollectsOn : BookValue → Setting → List State → BookValue → List PendingValue → List StateValue → Option StateValue → List Line → Type 0
+CollectsOn base g whole book stack taken None lines = Collects base g whole book stack taken lines
+CollectsOn base g whole book stack taken (Some s) lines = Collects base g whole book (map (marked (length book.polynomials)) stack) (taken ++ s ∷ []) lines
+
+-- the second stack stands in the book wherever the first one does, with the same states
+pub record StandsFor (book : BookValue) (old new : List PendingValue) : Type 0 where
+  pub stands : (base : BookValue) → StackedIn base book old → StackedIn base book new
+  pub same : (base : BookValue) → StackedIn base book old → pending_states book new ≡ pending_states book old
+  pub count : length new ≡ length old

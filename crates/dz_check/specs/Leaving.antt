@@ -1,8 +1,8 @@
 -- What calls tell of entries: what one leaves below its state. No public clause cites this file.
 use Rattle.std.specs.Prelude.{◌≡◌, ⊤, ℕ, Bool, true, false, List, [], ◌∷◌, Result, Ok}
 use Rattle.dz_poly.specs.Books.{BookValue}
-use Rattle.dz_terms.specs.Ranked.{symbols_under}
-use Rattle.dz_diff.specs.Lists.{AllOf}
+use Rattle.dz_monomials.specs.Ranked.{symbols_under}
+use Rattle.dz_monomials.specs.Lists.{AllOf}
 use Rattle.dz_diff.specs.State.{State}
 use Rattle.dz_diff.specs.States.{IsStateOf}
 use Rattle.dz_move.specs.declared.Rule.{Rule}

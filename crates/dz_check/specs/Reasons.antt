@@ -7,7 +7,7 @@ use Rattle.dz_algebra.specs.Polynomial.{Polynomial}
 use Rattle.dz_algebra.specs.Size.{Refusal, wide, large, separant_answer}
 use Rattle.dz_algebra.specs.Symbols.{Symbols}
 use Rattle.dz_rank.specs.declared.symbols.Symbol.{Symbol}
-use Rattle.dz_diff.specs.Outcome.{◌>>=◌, numbered, told_as}
+use Rattle.dz_algebra.specs.Outcome.{◌>>=◌, numbered, told_as}
 use Rattle.dz_diff.specs.Operations.{Setting}
 use Rattle.dz_diff.specs.State.{State, at_place}
 use Rattle.dz_move.specs.Fault.{Fault, refusal, rule}

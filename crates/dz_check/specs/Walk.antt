@@ -1,6 +1,6 @@
 -- Trees: the states at their lines, their ends, and the verdict (this project).
 use Rattle.std.specs.Prelude.{ℕ, ◌+◌, nat_le, Bool, true, ◌&&◌, cond, List, [], ◌∷◌, ◌++◌, length, map, filter, Result, Ok, Err}
-use Rattle.dz_diff.specs.Outcome.{◌>>=◌, needs, told_as}
+use Rattle.dz_algebra.specs.Outcome.{◌>>=◌, needs, told_as}
 use Rattle.dz_diff.specs.Operations.{Setting}
 use Rattle.dz_diff.specs.State.{State}
 use Rattle.dz_move.specs.Root.{System, is_closed, root_of}

@@ -3,14 +3,14 @@
 ghost use Rattle.std.specs.Prelude.{◌≡◌, ◌≤◌, ◌∷◌, [], true, false, map, length, reverse, ℕ, List};
 ghost use Rattle.std.specs.Prelude.{All, Ok, IfOk, OnOk, OnErr};
 ghost use Rattle.dz_poly.specs.Books.{BookValue, IsKept};
-ghost use Rattle.dz_terms.specs.Ranked.{symbols_under};
+ghost use Rattle.dz_monomials.specs.Ranked.{symbols_under};
 ghost use Rattle.dz_diff.specs.Operations.{setting_of};
 ghost use Rattle.dz_diff.specs.State.{State as StateRecord};
 ghost use Rattle.dz_diff.specs.States.{IsStateOf, StandsIn, state_in};
 ghost use Rattle.dz_check.specs.Certified.{IsCertified};
-ghost use Rattle.dz_check.specs.Collecting.{AreCollected, Holds, IsCollecting, LeavesAgain, marked};
+ghost use Rattle.dz_check.specs.Collecting.{AreCollected, Holds, IsCollecting, LeavesAgain};
 ghost use Rattle.dz_tree.specs.EvidenceLines.{is_pair_line};
-ghost use Rattle.dz_move.specs.Lines.{Line as LineValue, entries_of, is_chain_line};
+ghost use Rattle.dz_move.specs.Lines.{Line as LineValue, entries_of};
 ghost use Rattle.dz_move.specs.Parts.{is_act};
 ghost use Rattle.dz_check.specs.Pending.{StackedIn, cut};
 ghost use Rattle.dz_move.specs.Systems.{IsSystemIn, system_in};
@@ -18,6 +18,7 @@ ghost use Rattle.dz_move.specs.TreeLines.{line_of};
 ghost use Rattle.dz_check.specs.Walk.{End, chains_of, ends_in, ends_of, walk};
 
 use crate::entering::Left;
+use crate::taking::{is_chain, take_chain};
 use crate::walking::{Pending, is_pair, push_left, push_state};
 use dz_diff::State;
 use dz_move::{Line, MoveFault, Performed, System, performed, root};
@@ -30,13 +31,6 @@ use std::alloc::{AllocError, Global};
 struct Retaken {
     state: State,
     left: Left,
-}
-
-/// Whether a line is a chain.
-fn is_chain(line: &Line) -> bool
-    ensures { result ≡ is_chain_line (line_of line.now) }
-{
-    matches!(line, Line::Chain)
 }
 
 /// Whether a line is a move or a fork.
@@ -105,15 +99,6 @@ fn retake(book: &mut Book, top: Pending, line: &Line) -> Result<Retaken, AllocEr
     Ok(Retaken { state, left })
 }
 
-/// Gives all pending states a mark, so that no restore gives up what the book has up to it.
-fn mark_all(stack: &mut Vec<Pending>, mark: BookMark)
-    ensures { stack.new.items ≡ map (marked mark) stack.old.items }
-{
-    for pending in stack.iter_mut() {
-        pending.mark = mark;
-    }
-}
-
 /// One line of a certified tree: the pending state on top is taken up, the states that are left come
 /// in its place, and at a chain it is taken. The mark before which nothing is given up any more is
 /// handed on.
@@ -144,10 +129,7 @@ fn collect(
     if !is_chain(line) {
         return Ok(floor);
     }
-    taken.push(state)?;
-    let floor = book.mark();
-    mark_all(stack, floor);
-    Ok(floor)
+    take_chain(book, stack, taken, state)
 }
 
 /// The states of the chains in lines, by a walk over them from a stack of states on.

@@ -3,7 +3,7 @@
 ghost use Rattle.std.specs.Prelude.{◌≡◌, ◌≤◌, true, not, map, List, ℕ, IfOk, IfErr};
 ghost use Rattle.std.specs.List.{list_all};
 ghost use Rattle.dz_poly.specs.Books.{IsKept};
-ghost use Rattle.dz_terms.specs.Ranked.{symbols_under};
+ghost use Rattle.dz_monomials.specs.Ranked.{symbols_under};
 ghost use Rattle.dz_diff.specs.Operations.{setting_of};
 ghost use Rattle.dz_diff.specs.State.{State as StateValue};
 ghost use Rattle.dz_diff.specs.States.{IsStateOf, StandsIn, state_in};

@@ -2,7 +2,7 @@
 //!
 //! Each function has an empty body: it does nothing, and its clause is the law.
 
-ghost use Rattle.dz_diff.specs.Lists.{AllOf};
+ghost use Rattle.dz_monomials.specs.Lists.{AllOf};
 ghost use Rattle.dz_diff.specs.Operations.{Setting};
 ghost use Rattle.dz_check.specs.Certified.{IsCertified};
 ghost use Rattle.dz_tree.specs.Chains.{IsChain};

@@ -1,7 +1,7 @@
 //! Reasons of open ends.
 
 ghost use Rattle.std.specs.Prelude.{◌≡◌, ◌&&◌, not, length, map, IfOk};
-ghost use Rattle.dz_terms.specs.Ranked.{symbols_under};
+ghost use Rattle.dz_monomials.specs.Ranked.{symbols_under};
 ghost use Rattle.dz_diff.specs.Operations.{setting_of};
 ghost use Rattle.dz_diff.specs.State.{at_place};
 ghost use Rattle.dz_diff.specs.States.{IsStateOf, StandsIn, state_in};

@@ -1,5 +1,6 @@
 //! What is told of trees.
 
+use dz_diff::State;
 use dz_move::Rule;
 
 /// What is told of a tree.
@@ -11,4 +12,12 @@ pub enum Verdict {
     Partial,
     /// This rule is the first that fails, at the first line that does not hold, counted from 1.
     Rejected { place: usize, rule: Rule },
+}
+
+/// What is told of a tree, with the states of its chains in their order; none where it is not
+/// certified.
+#[derive(Drop)]
+pub struct Checked {
+    pub verdict: Verdict,
+    pub chains: Vec<State>,
 }

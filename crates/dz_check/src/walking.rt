@@ -2,14 +2,16 @@
 //! them.
 
 ghost use Rattle.std.specs.Prelude.{◌≡◌, ◌≤◌, ◌+◌, ◌∷◌, ◌++◌, ◌||◌, true, false, map, length, ℕ};
-ghost use Rattle.std.specs.Prelude.{reverse, Bool, IfOk, IfErr, OnOk};
+ghost use Rattle.std.specs.Prelude.{reverse, Bool, List, IfOk, IfErr, OnOk};
 ghost use Rattle.std.specs.List.{list_all};
 ghost use Rattle.dz_poly.specs.Books.{BookValue, IsKept};
-ghost use Rattle.dz_terms.specs.Ranked.{symbols_under};
+ghost use Rattle.dz_monomials.specs.Ranked.{symbols_under};
 ghost use Rattle.dz_diff.specs.Operations.{setting_of};
-ghost use Rattle.dz_diff.specs.States.{IsStateOf, StandsIn, state_in};
+ghost use Rattle.dz_diff.specs.State.{State as StateRecord};
+ghost use Rattle.dz_diff.specs.States.{IsStateOf, StandsIn, StateValue, state_in};
 ghost use Rattle.dz_tree.specs.Entering.{IsEntryFault};
 ghost use Rattle.dz_tree.specs.EvidenceLines.{evidence_of, is_pair_line};
+ghost use Rattle.dz_check.specs.Collecting.{Collects, CollectsOn};
 ghost use Rattle.dz_check.specs.Leaving.{Leaves};
 ghost use Rattle.dz_tree.specs.LineOperators.{HaveOperatorsOf};
 ghost use Rattle.dz_move.specs.Lines.{grouped};
@@ -19,6 +21,7 @@ ghost use Rattle.dz_check.specs.Walk.{entered};
 ghost use Rattle.dz_check.specs.Walking.{IsRejection, IsWalking, line_in, pending_left, verdict_from};
 
 use crate::entering::{Left, Outcome, entered, leaves_open};
+use crate::taking::chain_at;
 use dz_diff::State;
 use dz_move::{Line, Reached};
 use dz_poly::{Book, BookMark};
@@ -44,11 +47,13 @@ impl Model for Pending {
     } };
 }
 
-/// The running weight after an entry, and whether it left an open end.
-#[derive(Clone, Copy, Debug, PartialEq, Eq)]
+/// The running weight after an entry, whether it left an open end, and the state that it left as a
+/// chain, if it did.
+#[derive(Drop)]
 pub(crate) struct Turned {
     pub(crate) weight: u32,
     pub(crate) is_open: bool,
+    pub(crate) chain: Option<State>,
 }
 
 /// Whether a line is evidence.
@@ -115,37 +120,37 @@ pub(crate) fn push_left(book: &Book, stack: &mut Vec<Pending>, left: Left) -> Re
 /// Takes up a pending state: the polynomials after its mark are given up, and its entry is entered.
 fn take_up(
     book: &mut Book,
-    top: Pending,
+    top: &Pending,
     line: &Line,
     evidence: &[Line],
     weight: u32,
     budget: u32,
 ) -> Result<Outcome, EntryFault>
-    requires mark { top.mark ≤ length book.old.polynomials }
-    requires stands { StandsIn (cut top.mark book.old) top.state }
+    requires mark { top.now.mark ≤ length book.old.polynomials }
+    requires stands { StandsIn (cut top.now.mark book.old) top.now.state }
     requires facts { IsStateOf (symbols_under book.old.ranking)
-        (state_in (cut top.mark book.old) top.state) }
+        (state_in (cut top.now.mark book.old) top.now.state) }
     requires pairs { list_all is_pair_line (map line_of evidence.now) ≡ true }
     requires operators { HaveOperatorsOf book.old.ranking.signature.independents
         (map line_of evidence.now) }
     requires within { weight ≤ budget }
     ensures ok { IfOk result (λ x. Leaves book.new (line_of line.now)
-        (state_in (cut top.mark book.old) top.state) x
+        (state_in (cut top.now.mark book.old) top.now.state) x
         (entered (setting_of book.old.ranking) budget weight
-        (state_in (cut top.mark book.old) top.state) (line_of line.now)
+        (state_in (cut top.now.mark book.old) top.now.state) (line_of line.now)
         (evidence_of (map line_of evidence.now)))) }
     ensures refused { IfErr result (λ fault. IsEntryFault fault (entered
-        (setting_of book.old.ranking) budget weight (state_in (cut top.mark book.old) top.state)
-        (line_of line.now) (evidence_of (map line_of evidence.now)))) }
-    ensures kept { IsKept (cut top.mark book.old) book.new }
+        (setting_of book.old.ranking) budget weight
+        (state_in (cut top.now.mark book.old) top.now.state) (line_of line.now)
+        (evidence_of (map line_of evidence.now)))) }
+    ensures kept { IsKept (cut top.now.mark book.old) book.new }
 {
-    let Pending { state, mark } = top;
-    book.restore(mark);
-    entered(book, &state, line, evidence, weight, budget)
+    book.restore(top.mark);
+    entered(book, &top.state, line, evidence, weight, budget)
 }
 
 /// One line with its evidence: the pending state on top is taken up, and the states that are left
-/// come in its place.
+/// come in its place. A chain is handed on, and its polynomials stand until the next turn.
 pub(crate) fn turn(
     book: &mut Book,
     stack: &mut Vec<Pending>,
@@ -168,6 +173,11 @@ pub(crate) fn turn(
         (reverse stack.old.items) (line_of line.now ∷ map line_of after.now)
         → IsWalking base book.new budget t.weight (reverse stack.new.items)
         (map line_of after.now)) }
+    ensures chains { IfOk result (λ t. (base : BookValue) (whole : List StateRecord)
+        (taken : List StateValue) → Collects base (setting_of book.old.ranking) whole book.old
+        (reverse stack.old.items) taken (line_of line.now ∷ map line_of after.now)
+        → CollectsOn base (setting_of book.old.ranking) whole book.new (reverse stack.new.items)
+        taken t.chain (map line_of after.now)) }
     ensures refused { IfErr result (λ fault. (place : ℕ) (opens : Bool) → IsRejection place fault
         (verdict_from (setting_of book.old.ranking) budget weight opens place book.old
         (reverse stack.old.items) (line_of line.now ∷ map line_of after.now))) }
@@ -179,11 +189,14 @@ pub(crate) fn turn(
         unreachable!();
     };
     let evidence = leading_pairs(after);
-    let Outcome { left, weight: more } = take_up(book, top, line, evidence, weight, budget)?;
+    let Outcome { left, weight: more } = take_up(book, &top, line, evidence, weight, budget)?;
     let is_open = leaves_open(line, &left);
     push_left(book, stack, left)?;
+    let Pending { state, mark: _ } = top;
+    let chain = chain_at(line, state);
     Ok(Turned {
         weight: weight + more,
         is_open,
+        chain,
     })
 }

@@ -1,3 +1,4 @@
+pub mod AskedReports
 pub mod Reported
 pub mod RunReports
 pub mod VanishingLines

@@ -1,22 +1,13 @@
 -- What is appended while a report is written. No public clause cites this file.
 use Rattle.std.specs.Prelude.{◌≡◌, ℕ, ◌+◌, Bool, List, [], ◌∷◌, ◌++◌, codes}
-use Rattle.dz_algebra.specs.Polynomial.{Polynomial}
-use Rattle.dz_rank.specs.declared.symbols.Symbol.{Symbol}
-use Rattle.dz_diff.specs.Operations.{Setting}
-use Rattle.dz_diff.specs.State.{State}
 use Rattle.dz_step.specs.declared.attempts.AttemptStop.{AttemptStop}
 use Rattle.dz_step.specs.declared.attempts.AttemptStop.TheVariants as stops
-use Rattle.dz_syntax.specs.Names.{Declared}
 use Rattle.dz_cert.specs.Documents.{ended_lines}
 use Rattle.dz_form.specs.Limits.{limit_word}
-use Rattle.dz_report.specs.Preparations.{prepared_report}
-use Rattle.dz_report.specs.Reductions.{question_report}
 use Rattle.dz_report.specs.Reports.{Report, reports_from, stopped_line}
 use Rattle.dz_report.specs.declared.ending.ReportEnd.{ReportEnd}
 use Rattle.dz_report.specs.declared.ending.ReportEnd.TheVariants.{Done, Wide, Large, Spent}
 use Rattle.dz_report.specs.declared.reducing.Reduced.{Reduced}
-use Rattle.dz_report.specs.declared.reports.Kind.{Kind}
-use Rattle.dz_report.specs.declared.reports.Kind.TheVariants as kinds
 
 -- a report was appended, and ends so
 pub record IsReported (before after : List ℕ) (end : ReportEnd) (report : Report) : Type 0 where
@@ -50,8 +41,3 @@ stop_report stop place = record { lines = stopped_line (why_words stop) place �
 abbrev pub GoesOn : {A : Type 0} → (ℕ → A → Report) → List ℕ → List ℕ → ℕ → List A → List A → Type 0
 GoesOn report before now k rest all =
     (after : List ℕ) (end : ReportEnd) → IsReported now after end (reports_from report (k + 1) rest) → IsReported before after end (reports_from report 1 all)
-
--- what is told of a question
-abbrev pub answer_report : Kind → Setting → Declared → ℕ → List State → Polynomial Symbol → Report
-answer_report kinds.Reduction g names budget chains f = question_report g names budget chains f
-answer_report kinds.Preparation g names budget chains f = prepared_report g names budget chains f

@@ -1,9 +1,9 @@
 //! Writing the preparations of one question.
 
-ghost use Rattle.std.specs.Prelude.{◌≡◌, ◌≢◌, ◌∷◌, ◌++◌, [], All, codes, map, IfOk, OnOk};
+ghost use Rattle.std.specs.Prelude.{◌≡◌, ◌≢◌, ◌∷◌, ◌++◌, [], codes, map, IfOk, OnOk};
 ghost use Rattle.dz_rank.specs.Symbols.{IsOperatorOf};
 ghost use Rattle.dz_poly.specs.Books.{IsKept, Lives, polynomial};
-ghost use Rattle.dz_diff.specs.Lists.{AllOf};
+ghost use Rattle.dz_monomials.specs.Lists.{AllOf};
 ghost use Rattle.dz_diff.specs.Operations.{Setting, setting_of};
 ghost use Rattle.dz_diff.specs.State.{State as Chain};
 ghost use Rattle.dz_diff.specs.States.{StandsIn, state_in};
@@ -18,12 +18,14 @@ ghost use Rattle.dz_cert.specs.Documents.{ended_lines, numbered};
 ghost use Rattle.dz_cert.specs.LineTexts.{behind_blanks, step_text};
 ghost use Rattle.dz_step.specs.declared.Step.{Step as StepValue};
 ghost use Rattle.dz_step.specs.declared.attempts.AttemptStop.TheVariants.{Memory};
+ghost use Rattle.dz_report.specs.Asked.{CanBeAsked};
 ghost use Rattle.dz_report.specs.Preparations.{power_text, prepared_lines, prepared_report};
 ghost use Rattle.dz_report.specs.Preparations.{product_words, term_line, turns_report};
 ghost use Rattle.dz_report.specs.Reports.{◌then◌, told};
 ghost use Rattle.dz_report.specs.Writing.{IsReported, stop_report};
 
 use crate::ReportEnd;
+use crate::asked::AskedChains;
 use crate::lines::push_chain;
 use crate::stops::write_why;
 use dz_ask::{Power, Preparation, PrepareAttempt, PreparedTerm, prepare};
@@ -235,20 +237,23 @@ fn push_preparation_by(
 pub(crate) fn push_preparation(
     alloc: Global,
     book: &mut Book,
-    names: &Names,
+    asked: &AskedChains<'_>,
     f: Poly,
-    chains: &[State],
-    budget: u32,
     into: &mut Vec<u8>,
 ) -> Result<ReportEnd, AllocError>
     requires f { Lives book.old f }
-    requires chains { All (λ s. StandsIn book.old s) chains.now }
-    requires signature { signature_of names.now ≡ book.old.ranking.signature }
+    requires asked { CanBeAsked book.old asked.now.names.now asked.now.chains.now }
     ensures reported { IfOk result (λ end. IsReported into.old.items into.new.items end
-        (prepared_report (setting_of book.old.ranking) names.now budget
-        (map (λ s. state_in book.old s) chains.now) (polynomial book.old f))) }
+        (prepared_report (setting_of book.old.ranking) asked.now.names.now
+        asked.now.budget (map (λ s. state_in book.old s) asked.now.chains.now)
+        (polynomial book.old f))) }
     ensures book { book.new ≡ book.old }
 {
+    let AskedChains {
+        names,
+        chains,
+        budget,
+    } = *asked;
     'chains: for k in 0..chains.len() {
         let end = push_preparation_by(alloc, book, names, f, k + 1, &chains[k], budget, into)?;
         if end.stops() {

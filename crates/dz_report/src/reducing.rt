@@ -1,6 +1,6 @@
 //! Writing the full runs on one question.
 
-ghost use Rattle.std.specs.Prelude.{◌≡◌, ◌≢◌, ◌∷◌, ◌++◌, [], All, codes, map, IfOk, OnOk};
+ghost use Rattle.std.specs.Prelude.{◌≡◌, ◌≢◌, ◌∷◌, ◌++◌, [], codes, map, IfOk, OnOk};
 ghost use Rattle.dz_poly.specs.Books.{IsKept, Lives, polynomial};
 ghost use Rattle.dz_diff.specs.Operations.{setting_of};
 ghost use Rattle.dz_diff.specs.States.{StandsIn, state_in};
@@ -10,6 +10,7 @@ ghost use Rattle.dz_step.specs.StepOperators.{AttemptDerivesAlong, DeriveAlong};
 ghost use Rattle.dz_step.specs.declared.Role.TheVariants.{Free};
 ghost use Rattle.dz_syntax.specs.Names.{signature_of};
 ghost use Rattle.dz_cert.specs.Documents.{ended_lines, numbered};
+ghost use Rattle.dz_report.specs.Asked.{CanBeAsked};
 ghost use Rattle.dz_report.specs.Reductions.{all_run_to_zero, question_report, remainder_line};
 ghost use Rattle.dz_report.specs.Reductions.{run_line, run_report, runs_to_zero, vanishing_line};
 ghost use Rattle.dz_report.specs.Reports.{◌then◌, by_chains, told};
@@ -17,6 +18,7 @@ ghost use Rattle.dz_report.specs.Writing.{IsReduced, IsReported};
 ghost use Rattle.dz_report.specs.declared.ending.ReportEnd.TheVariants.{Done};
 
 use crate::ReportEnd;
+use crate::asked::AskedChains;
 use crate::lines::push_chain;
 use crate::stops::write_why;
 use dz_ask::{Normal, normal_form};
@@ -149,22 +151,25 @@ fn push_numbered_run(
 fn push_runs(
     alloc: Global,
     book: &mut Book,
-    names: &Names,
+    asked: &AskedChains<'_>,
     f: Poly,
-    chains: &[State],
-    budget: u32,
     into: &mut Vec<u8>,
 ) -> Result<Reduced, AllocError>
     requires f { Lives book.old f }
-    requires chains { All (λ s. StandsIn book.old s) chains.now }
-    requires signature { signature_of names.now ≡ book.old.ranking.signature }
+    requires asked { CanBeAsked book.old asked.now.names.now asked.now.chains.now }
     ensures reduced { IfOk result (λ x. IsReduced into.old.items into.new.items x
-        (by_chains (λ s. run_report names.now (full_run (setting_of book.old.ranking)
-        s Free budget (polynomial book.old f))) (map (λ s. state_in book.old s) chains.now))
-        (all_run_to_zero (setting_of book.old.ranking) budget (polynomial book.old f)
-        (map (λ s. state_in book.old s) chains.now))) }
+        (by_chains (λ s. run_report asked.now.names.now (full_run (setting_of book.old.ranking)
+        s Free asked.now.budget (polynomial book.old f)))
+        (map (λ s. state_in book.old s) asked.now.chains.now))
+        (all_run_to_zero (setting_of book.old.ranking) asked.now.budget (polynomial book.old f)
+        (map (λ s. state_in book.old s) asked.now.chains.now))) }
     ensures book { book.new ≡ book.old }
 {
+    let AskedChains {
+        names,
+        chains,
+        budget,
+    } = *asked;
     let mut zero = true;
     'chains: for k in 0..chains.len() {
         let run = push_numbered_run(alloc, book, names, f, k + 1, &chains[k], budget, into)?;
@@ -197,21 +202,19 @@ fn push_vanishing(into: &mut Vec<u8>, zero: bool) -> Result<(), AllocError>
 pub(crate) fn push_reduction(
     alloc: Global,
     book: &mut Book,
-    names: &Names,
+    asked: &AskedChains<'_>,
     f: Poly,
-    chains: &[State],
-    budget: u32,
     into: &mut Vec<u8>,
 ) -> Result<ReportEnd, AllocError>
     requires f { Lives book.old f }
-    requires chains { All (λ s. StandsIn book.old s) chains.now }
-    requires signature { signature_of names.now ≡ book.old.ranking.signature }
+    requires asked { CanBeAsked book.old asked.now.names.now asked.now.chains.now }
     ensures reported { IfOk result (λ end. IsReported into.old.items into.new.items end
-        (question_report (setting_of book.old.ranking) names.now budget
-        (map (λ s. state_in book.old s) chains.now) (polynomial book.old f))) }
+        (question_report (setting_of book.old.ranking) asked.now.names.now
+        asked.now.budget (map (λ s. state_in book.old s) asked.now.chains.now)
+        (polynomial book.old f))) }
     ensures book { book.new ≡ book.old }
 {
-    let runs = push_runs(alloc, book, names, f, chains, budget, into)?;
+    let runs = push_runs(alloc, book, asked, f, into)?;
     if runs.end.stops() {
         return Ok(runs.end);
     }

@@ -1,6 +1,6 @@
 use Rattle.std.proofs.Common.{sym, subst, arith}
 use Rattle.dz_diff.specs.Operations.{setting_of}
-use Rattle.dz_diff.specs.Outcome.{told_as}
+use Rattle.dz_algebra.specs.Outcome.{told_as}
 use Rattle.dz_diff.specs.States.{state_in}
 use Rattle.dz_tree.specs.Entering.{IsEntryFault}
 use Rattle.dz_move.specs.declared.Rule.TheVariants as rules

@@ -1,16 +1,18 @@
-use Rattle.std.proofs.Common.{◌≤◌, ◌+◌, ◌∙◌, ◌∷◌, ◌||◌, Bool, List, map, ap, ap₂, sym, subst, arith}
+use Rattle.std.proofs.Common.{◌≤◌, ◌+◌, ◌∙◌, ◌∷◌, ◌||◌, Bool, List, Option, map, ap, ap₂, sym, subst, arith}
 use Rattle.std.specs.Prelude.{reverse}
 use Rattle.std.proofs.lemmas.List.{length-reverse}
 use Rattle.std.proofs.lemmas.Result.{err_from_is_err_and}
 use Rattle.dz_diff.specs.Operations.{setting_of}
-use Rattle.dz_diff.specs.States.{state_in}
+use Rattle.dz_diff.specs.States.{StateValue, state_in}
 use Rattle.dz_tree.specs.Entering.{IsEntryFault}
+use Rattle.dz_check.specs.Collecting.{Collects, CollectsOn, chain_at}
 use Rattle.dz_check.specs.Leaving.{Leaves}
 use Rattle.dz_move.specs.Lines.{Evidence, grouped}
 use Rattle.dz_check.specs.Pending.{PendingValue, StackedIn, cut}
 use Rattle.dz_move.specs.TreeLines.{line_of}
 use Rattle.dz_check.specs.Walk.{entered}
 use Rattle.dz_check.specs.Walking.{IsRejection, IsWalking, verdict_from}
+use Rattle.dz_check.proofs.ChainWalks.{left_once, taken_on}
 use Rattle.dz_check.proofs.Entries.{left_within}
 use Rattle.dz_check.proofs.LeadingPairs.{evidence_within}
 use Rattle.dz_check.proofs.Walks.{popped, some_pending, turn_keeps, turn_line, turn_refused, turn_told, turn_walks}
@@ -66,7 +68,7 @@ returns-in_err-push_left-clause-kept c = λ base h.
     (subst (λ (ps : List PendingValue). StackedIn base c.args.book.now ps) (popped c.args.stack.now.items c.pop.new.self.items top c.in-Some.ensures.items) h) c.in_ok-left.ensures.kept
 
 -- what the entry leaves, by the evidence that waits for its line
-leaves : (c : goal.In_ok-push_left) → Leaves c.take_up.new.book (line_of c.args.line.now) (state_in (cut c.in-Some.top.mark c.args.book.now) c.in-Some.top.state) c.in_ok-left.field-0
+leaves : (c : goal.After-chain_at-chain) → Leaves c.take_up.new.book (line_of c.args.line.now) (state_in (cut c.in-Some.top.mark c.args.book.now) c.in-Some.top.state) c.in_ok-left.field-0
     (entered (setting_of c.args.book.now.ranking) c.args.budget c.args.weight (state_in (cut c.in-Some.top.mark c.args.book.now) c.in-Some.top.state) (line_of c.args.line.now) (grouped (map line_of c.args.after.now)).0)
 leaves c =
     subst (λ (es : List Evidence). Leaves c.take_up.new.book (line_of c.args.line.now) (state_in (cut c.in-Some.top.mark c.args.book.now) c.in-Some.top.state) c.in_ok-left.field-0
@@ -112,6 +114,23 @@ returns-clause-walks c = λ base walks.
     let here = subst (λ (ps : List PendingValue). IsWalking base book c.args.budget c.args.weight ps (line ∷ lines)) p walks in
     subst (λ (ps : List PendingValue). IsWalking base new c.args.budget (c.args.weight + x.weight) ps lines) (sym c.in_ok-push_left.ensures)
     (turn_walks g c.args.budget c.args.weight base book new top rest line lines c.requires.no_pair here.stacked c.in_ok-left.ensures.kept x (leaves c) here)
+
+pub returns-clause-chains : goal.returns-clause-chains
+returns-clause-chains c = λ base whole taken h.
+    let book = c.args.book.now in
+    let g = setting_of book.ranking in
+    let top = c.in-Some.top in
+    let line = line_of c.args.line.now in
+    let lines = map line_of c.args.after.now in
+    let new = c.take_up.new.book in
+    let rest = reverse c.pop.new.self.items in
+    let x = c.in_ok-left.field-0 in
+    let p = popped c.args.stack.now.items c.pop.new.self.items top c.in-Some.ensures.items in
+    let here = subst (λ (ps : List PendingValue). Collects base g whole book ps taken (line ∷ lines)) p h in
+    let left = left_once new g c.args.budget c.args.weight (state_in (cut top.mark book) top.state) line _ x (leaves c) in
+    let on = taken_on g base whole book here.mark top rest taken line lines c.requires.no_pair here.is new c.in_ok-left.ensures.kept x.left left in
+    subst (λ (o : Option StateValue). CollectsOn base g whole new (reverse c.push_left.new.stack.items) taken o lines) (sym (c.chain_at-chain.ensures ∙ ap (λ (p : PendingValue). chain_at line p.state) c.top.view_is))
+    (subst (λ (ps : List PendingValue). CollectsOn base g whole new ps taken (chain_at line top.state) lines) (sym c.in_ok-push_left.ensures) on)
 
 pub returns-clause-kept : goal.returns-clause-kept
 returns-clause-kept c = λ base h.

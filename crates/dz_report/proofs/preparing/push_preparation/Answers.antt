@@ -18,30 +18,30 @@ use Rattle.dz_report.proofs.preparing.push_preparation.Goals as goal
 pub push_preparation_by-requires-clause-chain : goal.push_preparation_by-requires-clause-chain
 push_preparation_by-requires-clause-chain c =
     subst (λ b. StandsIn b c.index-chains-k.result) (sym c.chains.invariant.same)
-    (subst (StandsIn c.args.book.now) (sym c.index-chains-k.is) (c.requires.chains c.chains.k c.index-chains-k.result c.chains-test.true))
+    (subst (StandsIn c.args.book.now) (sym c.index-chains-k.is) (c.requires.asked.0 c.chains.k c.index-chains-k.result c.chains-test.true))
 
 pub returns-then-stops-clause-reported : goal.returns-then-stops-clause-reported
 unfolding prepared_report
 returns-then-stops-clause-reported c =
-    let report : BookValue → ℕ → State → Report = λ book k s. told (numbered (codes "chain") k ∷ []) then turns_report (setting_of book.ranking) s c.args.names.now (preparation (setting_of book.ranking) s c.args.budget (polynomial book c.args.f)) in
+    let report : BookValue → ℕ → State → Report = λ book k s. told (numbered (codes "chain") k ∷ []) then turns_report (setting_of book.ranking) s c.args.asked.now.names.now (preparation (setting_of book.ranking) s c.args.asked.now.budget (polynomial book c.args.f)) in
     let book = c.args.book.now in
     let chain = c.index-chains-k.result in
-    let here = slice_get_read c.args.chains.now _ c.chains.k chain refl c.chains-test.true c.index-chains-k.is in
+    let here = slice_get_read c.args.asked.now.chains.now _ c.chains.k chain refl c.chains-test.true c.index-chains-k.is in
     let is = subst (λ (b : BookValue). IsReported c.chains.into.items c.push_preparation_by.new.into.items c.in_ok-end.end (report b (c.chains.k + 1) (state_in b chain))) c.chains.invariant.same c.in_ok-end.ensures.reported in
     let stops = MatchBool-at_true _ _ c.if-stops.true c.stops.ensures in
-    goes_on_stop (report book) (λ s. state_in book s) c.args.chains.now c.chains.k chain c.args.into.now.items c.chains.into.items c.push_preparation_by.new.into.items c.in_ok-end.end here is stops c.chains.invariant.goes_on
+    goes_on_stop (report book) (λ s. state_in book s) c.args.asked.now.chains.now c.chains.k chain c.args.into.now.items c.chains.into.items c.push_preparation_by.new.into.items c.in_ok-end.end here is stops c.chains.invariant.goes_on
 
 pub chains-preserved : goal.chains-preserved
 chains-preserved c =
-    let report : BookValue → ℕ → State → Report = λ book k s. told (numbered (codes "chain") k ∷ []) then turns_report (setting_of book.ranking) s c.args.names.now (preparation (setting_of book.ranking) s c.args.budget (polynomial book c.args.f)) in
+    let report : BookValue → ℕ → State → Report = λ book k s. told (numbered (codes "chain") k ∷ []) then turns_report (setting_of book.ranking) s c.args.asked.now.names.now (preparation (setting_of book.ranking) s c.args.asked.now.budget (polynomial book c.args.f)) in
     let book = c.args.book.now in
     let chain = c.index-chains-k.result in
-    let here = slice_get_read c.args.chains.now _ c.chains.k chain refl c.chains-test.true c.index-chains-k.is in
+    let here = slice_get_read c.args.asked.now.chains.now _ c.chains.k chain refl c.chains-test.true c.index-chains-k.is in
     let is = subst (λ (b : BookValue). IsReported c.chains.into.items c.push_preparation_by.new.into.items c.in_ok-end.end (report b (c.chains.k + 1) (state_in b chain))) c.chains.invariant.same c.in_ok-end.ensures.reported in
     let done = MatchBool-at_false _ _ c.if-stops.false c.stops.ensures in
     record {
       same = c.in_ok-end.ensures.book ∙ c.chains.invariant.same;
-      goes_on = goes_on_more (report book) (λ s. state_in book s) c.args.chains.now c.chains.k chain c.args.into.now.items c.chains.into.items c.push_preparation_by.new.into.items here
+      goes_on = goes_on_more (report book) (λ s. state_in book s) c.args.asked.now.chains.now c.chains.k chain c.args.into.now.items c.chains.into.items c.push_preparation_by.new.into.items here
           (subst (λ (end : ReportEnd). IsReported c.chains.into.items c.push_preparation_by.new.into.items end (report book (c.chains.k + 1) (state_in book chain))) done is) c.chains.invariant.goes_on;
     }
 
@@ -49,5 +49,5 @@ pub returns-clause-reported : goal.returns-clause-reported
 unfolding prepared_report
 returns-clause-reported c =
     let book = c.args.book.now in
-    let report : ℕ → State → Report = λ k s. told (numbered (codes "chain") k ∷ []) then turns_report (setting_of book.ranking) s c.args.names.now (preparation (setting_of book.ranking) s c.args.budget (polynomial book c.args.f)) in
-    goes_on_end report (λ s. state_in book s) c.args.chains.now c.chains.k c.args.into.now.items c.chains.into.items c.chains-test.false c.chains.invariant.goes_on
+    let report : ℕ → State → Report = λ k s. told (numbered (codes "chain") k ∷ []) then turns_report (setting_of book.ranking) s c.args.asked.now.names.now (preparation (setting_of book.ranking) s c.args.asked.now.budget (polynomial book c.args.f)) in
+    goes_on_end report (λ s. state_in book s) c.args.asked.now.chains.now c.chains.k c.args.into.now.items c.chains.into.items c.chains-test.false c.chains.invariant.goes_on

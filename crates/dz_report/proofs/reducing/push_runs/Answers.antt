@@ -20,43 +20,43 @@ use Rattle.dz_report.proofs.reducing.push_runs.Goals as goal
 pub push_numbered_run-requires-clause-chain : goal.push_numbered_run-requires-clause-chain
 push_numbered_run-requires-clause-chain c =
     subst (λ b. StandsIn b c.index-chains-k.result) (sym c.chains.invariant.same)
-    (subst (StandsIn c.args.book.now) (sym c.index-chains-k.is) (c.requires.chains c.chains.k c.index-chains-k.result c.chains-test.true))
+    (subst (StandsIn c.args.book.now) (sym c.index-chains-k.is) (c.requires.asked.0 c.chains.k c.index-chains-k.result c.chains-test.true))
 
 pub returns-then-stops-clause-reduced : goal.returns-then-stops-clause-reduced
 returns-then-stops-clause-reduced c =
-    let report : BookValue → ℕ → State → Report = λ book k s. told (numbered (codes "chain") k ∷ []) then run_report c.args.names.now (full_run (setting_of book.ranking) s Free c.args.budget (polynomial book c.args.f)) in
+    let report : BookValue → ℕ → State → Report = λ book k s. told (numbered (codes "chain") k ∷ []) then run_report c.args.asked.now.names.now (full_run (setting_of book.ranking) s Free c.args.asked.now.budget (polynomial book c.args.f)) in
     let book = c.args.book.now in
     let chain = c.index-chains-k.result in
-    let here = slice_get_read c.args.chains.now _ c.chains.k chain refl c.chains-test.true c.index-chains-k.is in
-    let is = subst (λ (b : BookValue). IsReduced c.chains.into.items c.push_numbered_run.new.into.items c.in_ok-run.run' (report b (c.chains.k + 1) (state_in b chain)) (runs_to_zero (setting_of b.ranking) c.args.budget (polynomial b c.args.f) (state_in b chain)))
+    let here = slice_get_read c.args.asked.now.chains.now _ c.chains.k chain refl c.chains-test.true c.index-chains-k.is in
+    let is = subst (λ (b : BookValue). IsReduced c.chains.into.items c.push_numbered_run.new.into.items c.in_ok-run.run' (report b (c.chains.k + 1) (state_in b chain)) (runs_to_zero (setting_of b.ranking) c.args.asked.now.budget (polynomial b c.args.f) (state_in b chain)))
     c.chains.invariant.same c.in_ok-run.ensures.reduced in
     let stops = MatchBool-at_true _ _ c.if-stops.true c.stops.ensures in
-    let all = map (λ s. state_in book s) c.args.chains.now in
-    stop_reduced c.args.into.now.items c.push_numbered_run.new.into.items c.in_ok-run.run'.end c.in_ok-run.run'.zero (all_run_to_zero (setting_of book.ranking) c.args.budget (polynomial book c.args.f) all)
-    (by_chains (λ s. run_report c.args.names.now (full_run (setting_of book.ranking) s Free c.args.budget (polynomial book c.args.f))) all)
-    (goes_on_stop (report book) (λ s. state_in book s) c.args.chains.now c.chains.k chain c.args.into.now.items c.chains.into.items c.push_numbered_run.new.into.items c.in_ok-run.run'.end here is.reported stops c.chains.invariant.goes_on) stops
+    let all = map (λ s. state_in book s) c.args.asked.now.chains.now in
+    stop_reduced c.args.into.now.items c.push_numbered_run.new.into.items c.in_ok-run.run'.end c.in_ok-run.run'.zero (all_run_to_zero (setting_of book.ranking) c.args.asked.now.budget (polynomial book c.args.f) all)
+    (by_chains (λ s. run_report c.args.asked.now.names.now (full_run (setting_of book.ranking) s Free c.args.asked.now.budget (polynomial book c.args.f))) all)
+    (goes_on_stop (report book) (λ s. state_in book s) c.args.asked.now.chains.now c.chains.k chain c.args.into.now.items c.chains.into.items c.push_numbered_run.new.into.items c.in_ok-run.run'.end here is.reported stops c.chains.invariant.goes_on) stops
 
 pub chains-preserved : goal.chains-preserved
 chains-preserved c =
-    let report : BookValue → ℕ → State → Report = λ book k s. told (numbered (codes "chain") k ∷ []) then run_report c.args.names.now (full_run (setting_of book.ranking) s Free c.args.budget (polynomial book c.args.f)) in
+    let report : BookValue → ℕ → State → Report = λ book k s. told (numbered (codes "chain") k ∷ []) then run_report c.args.asked.now.names.now (full_run (setting_of book.ranking) s Free c.args.asked.now.budget (polynomial book c.args.f)) in
     let book = c.args.book.now in
     let chain = c.index-chains-k.result in
-    let here = slice_get_read c.args.chains.now _ c.chains.k chain refl c.chains-test.true c.index-chains-k.is in
-    let is = subst (λ (b : BookValue). IsReduced c.chains.into.items c.push_numbered_run.new.into.items c.in_ok-run.run' (report b (c.chains.k + 1) (state_in b chain)) (runs_to_zero (setting_of b.ranking) c.args.budget (polynomial b c.args.f) (state_in b chain)))
+    let here = slice_get_read c.args.asked.now.chains.now _ c.chains.k chain refl c.chains-test.true c.index-chains-k.is in
+    let is = subst (λ (b : BookValue). IsReduced c.chains.into.items c.push_numbered_run.new.into.items c.in_ok-run.run' (report b (c.chains.k + 1) (state_in b chain)) (runs_to_zero (setting_of b.ranking) c.args.asked.now.budget (polynomial b c.args.f) (state_in b chain)))
     c.chains.invariant.same c.in_ok-run.ensures.reduced in
     let done = MatchBool-at_false _ _ c.if-stops.false c.stops.ensures in
     record {
       same = c.in_ok-run.ensures.book ∙ c.chains.invariant.same;
-      goes_on = goes_on_more (report book) (λ s. state_in book s) c.args.chains.now c.chains.k chain c.args.into.now.items c.chains.into.items c.push_numbered_run.new.into.items here
+      goes_on = goes_on_more (report book) (λ s. state_in book s) c.args.asked.now.chains.now c.chains.k chain c.args.into.now.items c.chains.into.items c.push_numbered_run.new.into.items here
           (subst (λ (end : ReportEnd). IsReported c.chains.into.items c.push_numbered_run.new.into.items end (report book (c.chains.k + 1) (state_in book chain))) done is.reported) c.chains.invariant.goes_on;
-      zero = zero_more (runs_to_zero (setting_of book.ranking) c.args.budget (polynomial book c.args.f)) (λ s. state_in book s) c.args.chains.now c.chains.k chain c.chains.zero c.in_ok-run.run'.zero _ here (is.zero done) c.chains.invariant.zero;
+      zero = zero_more (runs_to_zero (setting_of book.ranking) c.args.asked.now.budget (polynomial book c.args.f)) (λ s. state_in book s) c.args.asked.now.chains.now c.chains.k chain c.chains.zero c.in_ok-run.run'.zero _ here (is.zero done) c.chains.invariant.zero;
     }
 
 pub returns-clause-reduced : goal.returns-clause-reduced
 returns-clause-reduced c =
-    let report : BookValue → ℕ → State → Report = λ book k s. told (numbered (codes "chain") k ∷ []) then run_report c.args.names.now (full_run (setting_of book.ranking) s Free c.args.budget (polynomial book c.args.f)) in
+    let report : BookValue → ℕ → State → Report = λ book k s. told (numbered (codes "chain") k ∷ []) then run_report c.args.asked.now.names.now (full_run (setting_of book.ranking) s Free c.args.asked.now.budget (polynomial book c.args.f)) in
     let book = c.args.book.now in
     record {
-      reported = goes_on_end (report book) (λ s. state_in book s) c.args.chains.now c.chains.k c.args.into.now.items c.chains.into.items c.chains-test.false c.chains.invariant.goes_on;
-      zero = λ e. no_more (runs_to_zero (setting_of book.ranking) c.args.budget (polynomial book c.args.f)) (λ s. state_in book s) c.args.chains.now c.chains.k c.chains.zero _ c.chains-test.false c.chains.invariant.zero;
+      reported = goes_on_end (report book) (λ s. state_in book s) c.args.asked.now.chains.now c.chains.k c.args.into.now.items c.chains.into.items c.chains-test.false c.chains.invariant.goes_on;
+      zero = λ e. no_more (runs_to_zero (setting_of book.ranking) c.args.asked.now.budget (polynomial book c.args.f)) (λ s. state_in book s) c.args.asked.now.chains.now c.chains.k c.chains.zero _ c.chains-test.false c.chains.invariant.zero;
     }

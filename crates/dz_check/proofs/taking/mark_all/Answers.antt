@@ -1,7 +1,7 @@
 use Rattle.std.proofs.Common.{ap}
 use Rattle.dz_check.specs.Pending.{PendingValue}
 use Rattle.dz_check.proofs.ChainWalks.{one_marked}
-use Rattle.dz_check.proofs.chain_states.mark_all.Goals as goal
+use Rattle.dz_check.proofs.taking.mark_all.Goals as goal
 
 pub loop-pending-preserved : goal.loop-pending-preserved
 loop-pending-preserved c =
