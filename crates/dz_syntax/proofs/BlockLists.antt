@@ -10,7 +10,8 @@ use Rattle.dz_syntax.specs.declared.fault.Stop.{Stop}
 use Rattle.dz_syntax.specs.declared.fault.Stop.TheVariants as stops
 use Rattle.dz_syntax.specs.Tokens.{front, behind, is_token}
 use Rattle.dz_syntax.specs.Names.{Declared}
-use Rattle.dz_syntax.specs.Faults.{◌>>=◌, Fails}
+use Rattle.dz_algebra.specs.Outcome.{◌>>=◌}
+use Rattle.dz_syntax.specs.Faults.{Fails}
 use Rattle.dz_syntax.specs.Marks.{expected, is_semicolon, kind_of}
 use Rattle.dz_syntax.specs.Blocks.{block_at, blocks, blocks_from}
 

@@ -8,13 +8,14 @@ use Rattle.dz_syntax.specs.declared.fault.Fault.{Fault}
 use Rattle.dz_syntax.specs.declared.names.Group.TheVariants.{Independents, Dependents}
 use Rattle.dz_syntax.specs.Tokens.{front, behind}
 use Rattle.dz_syntax.specs.Names.{Declared, dependents, no_names, room}
-use Rattle.dz_syntax.specs.Faults.{◌>>=◌}
+use Rattle.dz_algebra.specs.Outcome.{◌>>=◌}
 use Rattle.dz_syntax.specs.Declarations.{declarations}
 use Rattle.dz_syntax.specs.Marks.{expected, is_derivations, is_ranking, is_semicolon, is_open_bracket, is_close_bracket, kind_of}
 use Rattle.dz_syntax.specs.Blocks.{independents_at, independents_from, numbers_from, block_at, blocks, blocks_from}
 use Rattle.dz_syntax.specs.Systems.{header_at}
 use Rattle.dz_syntax.specs.SystemGrammar.{Stands, IsNames, IsIndependents, IsBlock, IsBlocks, IsHeader}
-use Rattle.dz_syntax.proofs.Sound.{bind_ok, ok_is}
+use Rattle.dz_algebra.proofs.Outcomes.{bind_ok}
+use Rattle.dz_syntax.proofs.Sound.{ok_is}
 use Rattle.dz_syntax.proofs.Complete.{on_ok}
 use Rattle.dz_syntax.proofs.Shorter.{behind_within, behind_shorter}
 use Rattle.dz_syntax.proofs.BlockLists.{kind_is_token}

@@ -11,7 +11,7 @@ use Rattle.dz_syntax.specs.Tokens.{front, behind, bytes_of}
 use Rattle.dz_syntax.specs.Numbers.{number_from, at_most}
 use Rattle.dz_syntax.specs.Names.{Declared}
 use Rattle.dz_syntax.specs.Atoms.{literal_at, literal_from, number_or, symbol_at, symbol_from}
-use Rattle.dz_syntax.specs.Faults.{◌>>=◌}
+use Rattle.dz_algebra.specs.Outcome.{◌>>=◌}
 use Rattle.dz_syntax.specs.Expressions.{State, Reader, most_literal, most_exponent, past, put, number_op, symbol_op, exponent_at, atom_with, power_from, power_with, factors, factors_from, product_with, sums, sums_from, first_from, poly_with, closed_from, inside}
 use Rattle.dz_syntax.specs.Grammar.{Grammar, binding, IsNumber, IsAtom, IsPower, IsFactors, IsProduct, IsSums, IsFirst, IsPoly, IsInside}
 use Rattle.dz_syntax.proofs.Shorter.{Shrinks, factors_within, sums_within, inside_within}

@@ -60,7 +60,7 @@ none_before (b ∷ before) end e = absurd (omega (arith, ap length e, length-app
 
 -- a document behind the word
 rest_follows : (total : ℕ) (names : _) (document end : List ℕ) → end ≡ 101 ∷ 110 ∷ 100 ∷ 10 ∷ document
-    → IsRest forms.Document total names end (record { questions = []; values = []; document = total - length document })
+    → IsRest forms.Document total names end (record { questions = []; values = []; functions = []; document = total - length document })
 unfolding front
 rest_follows total names document end e =
     let t = ap token_of e ∙ end_token document in
@@ -100,7 +100,7 @@ documents_follow bytes tree a =
             a.1,
             a.2,
             a.3,
-            record { questions = []; values = []; document = length twin - length document },
+            record { questions = []; values = []; functions = []; document = length twin - length document },
             header.0,
             equations.0,
             inequations.0,
@@ -116,6 +116,7 @@ documents_follow bytes tree a =
               inequations = a.3;
               questions = a.4.questions;
               values = a.4.values;
+              functions = a.4.functions;
               document = a.4.document;
             })) place,
           ),

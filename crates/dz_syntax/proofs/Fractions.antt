@@ -4,8 +4,9 @@ use Rattle.std.specs.Int.{is_negative}
 use Rattle.std.proofs.lemmas.Int.{unsigned_abs-mul}
 use Rattle.std.proofs.lemmas.Nat.Gcd.{same_from_IsGcd}
 use Rattle.dz_int.specs.Fractions.{Fraction, IsFraction, HasValue}
-use Rattle.dz_int.specs.Euclid.{gcd}
-use Rattle.dz_int.proofs.Coprime.{gcd_is, same_parts}
+use Rattle.dz_algebra.specs.Norm.{gcd}
+use Rattle.dz_algebra.proofs.Divisors.{gcd_is}
+use Rattle.dz_int.proofs.Coprime.{same_parts}
 use Rattle.dz_int.proofs.Signs.{by_sign, cancel_pos}
 use Rattle.dz_int.proofs.Cross.{quotient}
 use Rattle.dz_int.proofs.Reduced.{common_positive, quotients_coprime, reduced_value}

@@ -3,7 +3,8 @@ use Rattle.std.proofs.Common.{◌≡◌, Result, Ok, Err, refl, ◌∙◌}
 use Rattle.dz_syntax.specs.declared.fault.Fault.{Fault}
 use Rattle.dz_syntax.specs.declared.fault.Stop.{Stop}
 use Rattle.dz_syntax.specs.declared.fault.Stop.TheVariants as stops
-use Rattle.dz_syntax.specs.Faults.{◌>>=◌, Gives}
+use Rattle.dz_algebra.specs.Outcome.{◌>>=◌}
+use Rattle.dz_syntax.specs.Faults.{Gives}
 
 -- what goes with a value that was read
 pub gives_with : {X Y Z : Type 0} (view : X → Y) (f : Y → Z) (r : Result X Stop) (read : Result Y Fault) (total : Result Z Fault)

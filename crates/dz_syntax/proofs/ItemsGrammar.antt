@@ -13,7 +13,8 @@ use Rattle.dz_syntax.specs.Grammar.{Grammar, binding, IsAtom, IsPower, IsPoly, I
 use Rattle.dz_syntax.specs.Marks.{expected, is_word_of, is_relation, is_semicolon}
 use Rattle.dz_syntax.specs.Sections.{element_of, items_from, section_at, sides_at, sides_from}
 use Rattle.dz_syntax.specs.SystemGrammar.{IsSides, IsItemOf, IsSection}
-use Rattle.dz_syntax.proofs.Sound.{bind_ok, ok_is, poly_sound, inside_sound}
+use Rattle.dz_algebra.proofs.Outcomes.{bind_ok}
+use Rattle.dz_syntax.proofs.Sound.{ok_is, poly_sound, inside_sound}
 use Rattle.dz_syntax.proofs.Complete.{then, on_ok, poly_complete, inside_complete, symbol_front}
 use Rattle.dz_syntax.proofs.Shorter.{behind_within, poly_within, inside_within}
 use Rattle.dz_syntax.proofs.NamesGrammar.{stands_sound, stands_complete}
@@ -21,7 +22,7 @@ use Rattle.dz_syntax.proofs.ListsGrammar.{ends_element, list_from, list_sound, l
 
 -- ---- what follows a side
 
-ends_binds : (t : Token) → ends_element t ≡ true → binding t < 1
+pub ends_binds : (t : Token) → ends_element t ≡ true → binding t < 1
 ends_binds Comma e = omega arith
 ends_binds Semicolon e = omega arith
 ends_binds t e = absurd cc
@@ -63,7 +64,7 @@ sides_sound section names text y e =
     sides_from_sound section names (is_relation section (front b.0.text)) b.0 text y refl
     (subst (λ (l : List Op). IsPoly names (IsInside names 64) text l b.0.text) (sym a.out) a.is) b.2
 
-side_read : (names : Declared) (s : State) (o : List Op) (rest : List ℕ) → IsPoly names (IsInside names 64) s.text o rest → binding (front rest) < 1
+pub side_read : (names : Declared) (s : State) (o : List Op) (rest : List ℕ) → IsPoly names (IsInside names 64) s.text o rest → binding (front rest) < 1
     → poly_with names (inside names 64) s ≡ Ok (then s o rest)
 side_read names s o rest p lt = poly_complete names (IsInside names 64) (inside names 64) (inside_complete names 64) (inside_within names 64) s o rest p lt
 

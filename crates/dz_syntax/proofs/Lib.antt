@@ -15,7 +15,10 @@ pub mod BlocksGrammar
 pub mod ListsGrammar
 pub mod ItemsGrammar
 pub mod ValuesGrammar
+pub mod FirstNames
+pub mod FunctionsGrammar
 pub mod SystemReadings
+pub mod SystemFunctions
 pub mod Postfix
 pub mod SymbolsFit
 pub mod SystemExpressions

@@ -4,10 +4,11 @@ use Rattle.dz_syntax.specs.declared.token.Token.{Token}
 use Rattle.dz_syntax.specs.declared.token.Token.TheVariants.{Comma, Semicolon}
 use Rattle.dz_syntax.specs.declared.fault.Fault.{Fault}
 use Rattle.dz_syntax.specs.Tokens.{front, behind}
-use Rattle.dz_syntax.specs.Faults.{◌>>=◌}
+use Rattle.dz_algebra.specs.Outcome.{◌>>=◌}
 use Rattle.dz_syntax.specs.Marks.{expected, is_semicolon, separated, separated_from}
 use Rattle.dz_syntax.specs.SystemGrammar.{Stands, Element, IsMore, IsSeparated, IsList}
-use Rattle.dz_syntax.proofs.Sound.{bind_ok, ok_is}
+use Rattle.dz_algebra.proofs.Outcomes.{bind_ok}
+use Rattle.dz_syntax.proofs.Sound.{ok_is}
 use Rattle.dz_syntax.proofs.Complete.{on_ok}
 use Rattle.dz_syntax.proofs.Shorter.{past_shorter}
 use Rattle.dz_syntax.proofs.NamesGrammar.{stands_sound, stands_complete}

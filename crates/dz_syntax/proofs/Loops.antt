@@ -9,7 +9,8 @@ use Rattle.dz_syntax.specs.declared.expression.Op.{Op}
 use Rattle.dz_syntax.specs.declared.expression.Op.TheVariants as ops
 use Rattle.dz_syntax.specs.Names.{Declared}
 use Rattle.dz_syntax.specs.Tokens.{front}
-use Rattle.dz_syntax.specs.Faults.{◌>>=◌, Fails}
+use Rattle.dz_algebra.specs.Outcome.{◌>>=◌}
+use Rattle.dz_syntax.specs.Faults.{Fails}
 use Rattle.dz_syntax.specs.Expressions.{State, Reader, past, put, power_with, product_with, factors, factors_from, sums, sums_from}
 
 -- with a `*` at the front there is one more factor

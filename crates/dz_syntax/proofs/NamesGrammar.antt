@@ -12,7 +12,8 @@ use Rattle.dz_syntax.specs.Faults.{refuse}
 use Rattle.dz_syntax.specs.Declarations.{new_name, new_name_from, declarations, declarations_go_on}
 use Rattle.dz_syntax.specs.Marks.{expected}
 use Rattle.dz_syntax.specs.SystemGrammar.{Stands, IsNewName, IsMoreNames, IsNames}
-use Rattle.dz_syntax.proofs.Sound.{bind_ok, ok_is}
+use Rattle.dz_algebra.proofs.Outcomes.{bind_ok}
+use Rattle.dz_syntax.proofs.Sound.{ok_is}
 use Rattle.dz_syntax.proofs.Complete.{on_ok}
 use Rattle.dz_syntax.proofs.Shorter.{behind_within}
 

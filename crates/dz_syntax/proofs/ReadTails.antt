@@ -29,7 +29,8 @@ use Rattle.dz_syntax.proofs.ItemsGrammar.{side_within, sides_within}
 use Rattle.dz_syntax.proofs.ListsGrammar.{more_within}
 use Rattle.dz_syntax.proofs.NamesGrammar.{more_names_within, names_within}
 use Rattle.dz_syntax.proofs.Shorter.{Shrinks, behind_within, names_in_within, power_within, factors_within, product_within, sums_within, poly_within, inside_within}
-use Rattle.dz_syntax.proofs.Sound.{bind_ok, ok_is}
+use Rattle.dz_algebra.proofs.Outcomes.{bind_ok}
+use Rattle.dz_syntax.proofs.Sound.{ok_is}
 use Rattle.dz_syntax.proofs.Complete.{on_ok}
 use Rattle.dz_syntax.proofs.Tails.{AreTwins, bracket_same, past_same}
 

@@ -12,7 +12,8 @@ use Rattle.dz_syntax.specs.Postfix.{IsExpression}
 use Rattle.dz_syntax.specs.Expressions.{State, poly_with, inside}
 use Rattle.dz_syntax.specs.Grammar.{binding, IsPoly, IsInside}
 use Rattle.dz_syntax.specs.Items.{placed, Answers, ended_from, start, item_at, item_of, IsItem}
-use Rattle.dz_syntax.proofs.Sound.{bind_ok, ok_is, poly_sound, inside_sound}
+use Rattle.dz_algebra.proofs.Outcomes.{bind_ok}
+use Rattle.dz_syntax.proofs.Sound.{ok_is, poly_sound, inside_sound}
 use Rattle.dz_syntax.proofs.Shorter.{inside_within}
 use Rattle.dz_syntax.proofs.Postfix.{made_expression, poly_is_made}
 use Rattle.dz_syntax.proofs.SymbolsFit.{symbol_fits}

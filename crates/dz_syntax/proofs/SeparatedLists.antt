@@ -6,7 +6,8 @@ use Rattle.dz_syntax.specs.declared.fault.Fault.{Fault}
 use Rattle.dz_syntax.specs.declared.fault.Stop.{Stop}
 use Rattle.dz_syntax.specs.declared.fault.Stop.TheVariants as stops
 use Rattle.dz_syntax.specs.Tokens.{front, behind}
-use Rattle.dz_syntax.specs.Faults.{◌>>=◌, Fails}
+use Rattle.dz_algebra.specs.Outcome.{◌>>=◌}
+use Rattle.dz_syntax.specs.Faults.{Fails}
 use Rattle.dz_syntax.specs.Marks.{separated, separated_from, expected, is_semicolon}
 
 -- what reads one element, behind those that were found

@@ -16,7 +16,8 @@ use Rattle.dz_syntax.specs.Faults.{refuse}
 use Rattle.dz_syntax.specs.declared.fault.SyntaxKind.TheVariants.{Order}
 use Rattle.dz_syntax.specs.declared.expression.Op.TheVariants as ops
 use Rattle.dz_syntax.specs.Grammar.{Grammar, IsAtom, IsPower, IsFactors, IsProduct, IsSums, IsFirst, IsPoly, IsInside}
-use Rattle.dz_syntax.proofs.Sound.{bind_ok, ok_is}
+use Rattle.dz_algebra.proofs.Outcomes.{bind_ok}
+use Rattle.dz_syntax.proofs.Sound.{ok_is}
 
 cond_within : (c : Bool) (x y : List ℕ) (n : ℕ) → length x ≤ n → length y ≤ n → length (cond c x y) ≤ n
 cond_within true x y n p q = p

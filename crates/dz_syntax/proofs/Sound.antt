@@ -1,6 +1,7 @@
 -- What is read is in the grammar.
 use Rattle.std.proofs.Common.{◌≡◌, ◌⊎◌, ℕ, zero, suc, ◌≤◌, List, [], ◌∷◌, ◌++◌, length, Result, Ok, Err, Option, Some, None, Bool, true, false, cond, pos, refl, sym, ap, subst, ◌∙◌, append_assoc, append-nil, arith, inl, inr, leb}
 use Rattle.std.proofs.lemmas.Bool.Decides.{nat_tests}
+use Rattle.dz_algebra.proofs.Outcomes.{bind_ok}
 use Rattle.dz_syntax.specs.declared.token.Token.{Token}
 use Rattle.dz_syntax.specs.declared.token.Token.TheVariants.{Name, Number, OpenParenthesis, CloseParenthesis, Plus, Minus, Star, Caret}
 use Rattle.dz_syntax.specs.declared.fault.Fault.{Fault}
@@ -12,14 +13,9 @@ use Rattle.dz_syntax.specs.Tokens.{front, behind, bytes_of}
 use Rattle.dz_syntax.specs.Numbers.{number_from, at_most}
 use Rattle.dz_syntax.specs.Names.{Declared}
 use Rattle.dz_syntax.specs.Atoms.{literal_at, literal_from, number_or, symbol_at}
-use Rattle.dz_syntax.specs.Faults.{◌>>=◌}
+use Rattle.dz_algebra.specs.Outcome.{◌>>=◌}
 use Rattle.dz_syntax.specs.Expressions.{State, Reader, most_literal, most_exponent, past, put, number_op, symbol_op, exponent_at, atom_from, atom_with, power_from, power_with, factors, factors_from, product_with, sums, sums_from, first_from, poly_with, closed_from, inside}
 use Rattle.dz_syntax.specs.Grammar.{Grammar, IsNumber, IsAtom, IsPower, IsFactors, IsProduct, IsSums, IsFirst, IsPoly, IsInside}
-
--- the value of a step that did not fail
-pub bind_ok : {A B : Type 0} (r : Result A Fault) (f : A → Result B Fault) (y : B) → (r >>= f) ≡ Ok y → (x : A) × (r ≡ Ok x) × (f x ≡ Ok y)
-bind_ok (Ok x) f y e = (x, refl, e)
-bind_ok (Err d) f y e = absurd cc
 
 abbrev done : {A : Type 0} → A → Result A Fault
 done x = Ok x

@@ -21,7 +21,8 @@ use Rattle.dz_syntax.specs.Marks.{is_semicolon}
 use Rattle.dz_syntax.specs.Names.{Declared, declared, find, no_names, room}
 use Rattle.dz_syntax.specs.SystemGrammar.{Stands, IsMoreNames, IsNames, IsIndependents, IsBlock, IsBlocks, IsHeader, IsSides, IsMore, IsList, IsItemOf, IsSection}
 use Rattle.dz_syntax.specs.Tokens.{is_separator, skip_from, token_of, front, behind, bytes_of}
-use Rattle.dz_syntax.proofs.Sound.{bind_ok, ok_is}
+use Rattle.dz_algebra.proofs.Outcomes.{bind_ok}
+use Rattle.dz_syntax.proofs.Sound.{ok_is}
 
 -- a text ends in another
 abbrev pub EndsIn : List ℕ → List ℕ → Type 0

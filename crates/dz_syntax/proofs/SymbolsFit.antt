@@ -18,7 +18,8 @@ use Rattle.dz_syntax.specs.Tokens.{front, behind, bytes_of}
 use Rattle.dz_syntax.specs.Names.{Declared, dependents, find, plain, signature_of, symbol_numbered}
 use Rattle.dz_syntax.specs.Atoms.{as_independent, independent_from, independent_at, raised, names_go_on, names_in, symbol_of, symbol_if, symbol_from, symbol_at}
 use Rattle.dz_syntax.specs.Faults.{refuse}
-use Rattle.dz_syntax.proofs.Sound.{bind_ok, ok_is}
+use Rattle.dz_algebra.proofs.Outcomes.{bind_ok}
+use Rattle.dz_syntax.proofs.Sound.{ok_is}
 
 -- what is promised of a symbol that is read
 abbrev pub Fits : Declared → Symbol → Type 0

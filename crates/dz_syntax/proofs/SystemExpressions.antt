@@ -6,7 +6,7 @@ use Rattle.dz_syntax.specs.declared.fault.SyntaxFault.{SyntaxFault}
 use Rattle.dz_syntax.specs.declared.marks.Section.{Section}
 use Rattle.dz_syntax.specs.declared.marks.Section.TheVariants as sections
 use Rattle.dz_syntax.specs.declared.endings.Form.{Form}
-use Rattle.dz_syntax.specs.declared.endings.Form.TheVariants.{Plain, Questions, Values, Document}
+use Rattle.dz_syntax.specs.declared.endings.Form.TheVariants.{Plain, Questions, Values, Document, Functions}
 use Rattle.dz_syntax.specs.declared.system.SystemTree.{SystemTree}
 use Rattle.dz_syntax.specs.declared.expression.Op.{Op}
 use Rattle.dz_syntax.specs.declared.expression.Op.TheVariants as ops
@@ -61,6 +61,7 @@ rest_is_expressions Plain total names text r a = subst (λ (r : Rest). AreExpres
 rest_is_expressions Questions total names text r a = subst (λ (r : Rest). AreExpressions names r.questions) (sym a.4) (section_is_expressions sections.Questions names text a.0 a.1 a.2)
 rest_is_expressions Values total names text r a = subst (λ (r : Rest). AreExpressions names r.questions) (sym a.6) (no_expressions names)
 rest_is_expressions Document total names text r a = subst (λ (r : Rest). AreExpressions names r.questions) (sym a.3) (no_expressions names)
+rest_is_expressions Functions total names text r a = subst (λ (r : Rest). AreExpressions names r.questions) (sym a.6) (no_expressions names)
 
 system_has : (form : Form) (bytes : List ℕ) (tree : Tree) → IsSystem form bytes tree → HasExpressions tree
 system_has form bytes tree a =

@@ -10,26 +10,30 @@ use Rattle.dz_syntax.specs.declared.fault.SyntaxFault.{SyntaxFault}
 use Rattle.dz_syntax.specs.declared.fault.SyntaxKind.TheVariants.{Unexpected}
 use Rattle.dz_syntax.specs.declared.marks.Section.TheVariants as sections
 use Rattle.dz_syntax.specs.declared.endings.Form.{Form}
-use Rattle.dz_syntax.specs.declared.endings.Form.TheVariants.{Plain, Questions, Values, Document}
+use Rattle.dz_syntax.specs.declared.endings.Form.TheVariants.{Plain, Questions, Values, Document, Functions}
 use Rattle.dz_syntax.specs.declared.system.SystemTree.{SystemTree}
 use Rattle.dz_syntax.specs.declared.expression.Op.{Op}
 use Rattle.dz_syntax.specs.Tokens.{front, behind, token_of, skip_from}
 use Rattle.dz_syntax.specs.Names.{Declared, no_names, signature_of}
-use Rattle.dz_syntax.specs.Faults.{◌>>=◌, refuse}
+use Rattle.dz_algebra.specs.Outcome.{◌>>=◌}
+use Rattle.dz_syntax.specs.Faults.{refuse}
 use Rattle.dz_syntax.specs.Marks.{expected, is_values, is_end, is_nothing, is_semicolon}
 use Rattle.dz_syntax.specs.Values.{element_of}
+use Rattle.dz_syntax.specs.Functions.{element_of as function_of}
 use Rattle.dz_syntax.specs.Sections.{section_at}
-use Rattle.dz_syntax.specs.Endings.{Rest, end_at, values_from, values_at, line_from, document_at, rest_at}
+use Rattle.dz_syntax.specs.Endings.{Rest, end_at, values_from, values_at, functions_from, functions_at, line_from, document_at, rest_at}
 use Rattle.dz_syntax.specs.Items.{placed, Answers}
 use Rattle.dz_syntax.specs.Systems.{Tree, tree_of, header_at, system_at, system_of}
-use Rattle.dz_syntax.specs.SystemGrammar.{Stands, IsValue, IsList, IsEnd, IsRest, IsSystem}
-use Rattle.dz_syntax.proofs.Sound.{bind_ok, ok_is}
+use Rattle.dz_syntax.specs.SystemGrammar.{Stands, IsValue, IsFunction, IsList, IsEnd, IsRest, IsSystem}
+use Rattle.dz_algebra.proofs.Outcomes.{bind_ok}
+use Rattle.dz_syntax.proofs.Sound.{ok_is}
 use Rattle.dz_syntax.proofs.Complete.{on_ok}
 use Rattle.dz_syntax.proofs.NamesGrammar.{stands_sound, stands_complete}
 use Rattle.dz_syntax.proofs.BlocksGrammar.{header_sound, header_complete}
 use Rattle.dz_syntax.proofs.ListsGrammar.{list_from, list_sound, list_complete}
 use Rattle.dz_syntax.proofs.ItemsGrammar.{section_sound, section_complete}
 use Rattle.dz_syntax.proofs.ValuesGrammar.{value_sound, value_complete, value_within, value_starts}
+use Rattle.dz_syntax.proofs.FunctionsGrammar.{function_sound, function_complete, function_within, function_starts}
 
 -- ---- the end
 
@@ -74,6 +78,31 @@ values_complete names text values rest a =
     ∙ values_from_is names (is_semicolon (front a.0)) a.0
     ∙ list_complete (element_of names) (IsValue names) (value_complete names) (value_within names) (value_starts names) a.0 values rest a.2
 
+-- ---- the functions
+
+-- a word, and [functions] ";"
+abbrev AreFunctions : Declared → List ℕ → List (ℕ × List Op) → List ℕ → Type 0
+AreFunctions names text functions rest =
+    (mid : List ℕ) × Stands is_values text mid × IsList (IsFunction names) mid functions rest
+
+functions_from_is : (names : Declared) (c : Bool) (text : List ℕ) → functions_from names c text ≡ list_from (function_of names) (IsFunction names) c text
+functions_from_is names true text = refl
+functions_from_is names false text = refl
+
+functions_sound : (names : Declared) (text : List ℕ) (y : List (ℕ × List Op) × List ℕ) → functions_at names text ≡ Ok y → AreFunctions names text y.0 y.1
+unfolding functions_at
+functions_sound names text y e =
+    let b = bind_ok (expected (is_values (front text)) text) (λ t. functions_from names (is_semicolon (front t)) t) y e in
+    let c = is_semicolon (front b.0) in
+    (b.0, stands_sound is_values text b.0 b.1, list_sound (function_of names) (IsFunction names) (function_sound names) c b.0 y refl (sym (functions_from_is names c b.0) ∙ b.2))
+
+functions_complete : (names : Declared) (text : List ℕ) (functions : List (ℕ × List Op)) (rest : List ℕ) → AreFunctions names text functions rest → functions_at names text ≡ Ok (functions, rest)
+unfolding functions_at
+functions_complete names text functions rest a =
+    on_ok (expected (is_values (front text)) text) a.0 (λ t. functions_from names (is_semicolon (front t)) t) (stands_complete is_values text a.0 a.1)
+    ∙ functions_from_is names (is_semicolon (front a.0)) a.0
+    ∙ list_complete (function_of names) (IsFunction names) (function_complete names) (function_within names) (function_starts names) a.0 functions rest a.2
+
 -- ---- the document
 
 line_if : (c : Bool) (b : ℕ) (rest document : List ℕ) → (b == 10) ≡ c → (if c then Ok rest else refuse Unexpected (b ∷ rest)) ≡ Ok document → b ∷ rest ≡ 10 ∷ document
@@ -99,27 +128,32 @@ document_complete text document is e =
 
 -- ---- what follows the inequations
 
-abbrev rest_with : List (List Op) → List (Symbol × Fraction) → ℕ → Rest
-rest_with questions values document = record { questions = questions; values = values; document = document }
+abbrev rest_with : List (List Op) → List (Symbol × Fraction) → List (ℕ × List Op) → ℕ → Rest
+rest_with questions values functions document = record { questions = questions; values = values; functions = functions; document = document }
 
 rest_sound : (form : Form) (total : ℕ) (names : Declared) (text : List ℕ) (r : Rest) → rest_at form total names text ≡ Ok r → IsRest form total names text r
 unfolding rest_at
 rest_sound Plain total names text r e =
-    let b = bind_ok (end_at text) (λ end. Ok (rest_with [] [] 0)) r e in
-    (end_sound text b.0 b.1, sym (ok_is (rest_with [] [] 0) r b.2))
+    let b = bind_ok (end_at text) (λ end. Ok (rest_with [] [] [] 0)) r e in
+    (end_sound text b.0 b.1, sym (ok_is (rest_with [] [] [] 0) r b.2))
 rest_sound Questions total names text r e =
-    let b = bind_ok (section_at sections.Questions names text) (λ q. end_at q.1 >>= λ end. Ok (rest_with q.0 [] 0)) r e in
-    let c = bind_ok (end_at b.0.1) (λ end. Ok (rest_with b.0.0 [] 0)) r b.2 in
-    (b.0.0, b.0.1, section_sound sections.Questions names text b.0 b.1, end_sound b.0.1 c.0 c.1, sym (ok_is (rest_with b.0.0 [] 0) r c.2))
+    let b = bind_ok (section_at sections.Questions names text) (λ q. end_at q.1 >>= λ end. Ok (rest_with q.0 [] [] 0)) r e in
+    let c = bind_ok (end_at b.0.1) (λ end. Ok (rest_with b.0.0 [] [] 0)) r b.2 in
+    (b.0.0, b.0.1, section_sound sections.Questions names text b.0 b.1, end_sound b.0.1 c.0 c.1, sym (ok_is (rest_with b.0.0 [] [] 0) r c.2))
 rest_sound Values total names text r e =
-    let b = bind_ok (values_at names text) (λ v. end_at v.1 >>= λ end. Ok (rest_with [] v.0 0)) r e in
-    let c = bind_ok (end_at b.0.1) (λ end. Ok (rest_with [] b.0.0 0)) r b.2 in
+    let b = bind_ok (values_at names text) (λ v. end_at v.1 >>= λ end. Ok (rest_with [] v.0 [] 0)) r e in
+    let c = bind_ok (end_at b.0.1) (λ end. Ok (rest_with [] b.0.0 [] 0)) r b.2 in
     let v = values_sound names text b.0 b.1 in
-    (b.0.0, v.0, b.0.1, v.1, v.2, end_sound b.0.1 c.0 c.1, sym (ok_is (rest_with [] b.0.0 0) r c.2))
+    (b.0.0, v.0, b.0.1, v.1, v.2, end_sound b.0.1 c.0 c.1, sym (ok_is (rest_with [] b.0.0 [] 0) r c.2))
 rest_sound Document total names text r e =
-    let b = bind_ok (document_at text) (λ document. Ok (rest_with [] [] (total - length document))) r e in
+    let b = bind_ok (document_at text) (λ document. Ok (rest_with [] [] [] (total - length document))) r e in
     let d = document_sound text b.0 b.1 in
-    (b.0, d.0, d.1, sym (ok_is (rest_with [] [] (total - length b.0)) r b.2))
+    (b.0, d.0, d.1, sym (ok_is (rest_with [] [] [] (total - length b.0)) r b.2))
+rest_sound Functions total names text r e =
+    let b = bind_ok (functions_at names text) (λ v. end_at v.1 >>= λ end. Ok (rest_with [] [] v.0 0)) r e in
+    let c = bind_ok (end_at b.0.1) (λ end. Ok (rest_with [] [] b.0.0 0)) r b.2 in
+    let v = functions_sound names text b.0 b.1 in
+    (b.0.0, v.0, b.0.1, v.1, v.2, end_sound b.0.1 c.0 c.1, sym (ok_is (rest_with [] [] b.0.0 0) r c.2))
 
 abbrev done : Rest → Result Rest Fault
 done r = Ok r
@@ -128,17 +162,21 @@ rest_complete : (form : Form) (total : ℕ) (names : Declared) (text : List ℕ)
 unfolding rest_at
 rest_complete Plain total names text r a =
     let d = end_complete text a.0 in
-    on_ok (end_at text) d.0 (λ end. done (rest_with [] [] 0)) d.1 ∙ ap done (sym a.1)
+    on_ok (end_at text) d.0 (λ end. done (rest_with [] [] [] 0)) d.1 ∙ ap done (sym a.1)
 rest_complete Questions total names text r a =
     let d = end_complete a.1 a.3 in
-    on_ok (section_at sections.Questions names text) (a.0, a.1) (λ q. end_at q.1 >>= λ end. done (rest_with q.0 [] 0)) (section_complete sections.Questions names text a.0 a.1 a.2)
-    ∙ on_ok (end_at a.1) d.0 (λ end. done (rest_with a.0 [] 0)) d.1 ∙ ap done (sym a.4)
+    on_ok (section_at sections.Questions names text) (a.0, a.1) (λ q. end_at q.1 >>= λ end. done (rest_with q.0 [] [] 0)) (section_complete sections.Questions names text a.0 a.1 a.2)
+    ∙ on_ok (end_at a.1) d.0 (λ end. done (rest_with a.0 [] [] 0)) d.1 ∙ ap done (sym a.4)
 rest_complete Values total names text r a =
     let d = end_complete a.2 a.5 in
-    on_ok (values_at names text) (a.0, a.2) (λ v. end_at v.1 >>= λ end. done (rest_with [] v.0 0)) (values_complete names text a.0 a.2 (a.1, a.3, a.4))
-    ∙ on_ok (end_at a.2) d.0 (λ end. done (rest_with [] a.0 0)) d.1 ∙ ap done (sym a.6)
+    on_ok (values_at names text) (a.0, a.2) (λ v. end_at v.1 >>= λ end. done (rest_with [] v.0 [] 0)) (values_complete names text a.0 a.2 (a.1, a.3, a.4))
+    ∙ on_ok (end_at a.2) d.0 (λ end. done (rest_with [] a.0 [] 0)) d.1 ∙ ap done (sym a.6)
 rest_complete Document total names text r a =
-    on_ok (document_at text) a.0 (λ document. done (rest_with [] [] (total - length document))) (document_complete text a.0 a.1 a.2) ∙ ap done (sym a.3)
+    on_ok (document_at text) a.0 (λ document. done (rest_with [] [] [] (total - length document))) (document_complete text a.0 a.1 a.2) ∙ ap done (sym a.3)
+rest_complete Functions total names text r a =
+    let d = end_complete a.2 a.5 in
+    on_ok (functions_at names text) (a.0, a.2) (λ v. end_at v.1 >>= λ end. done (rest_with [] [] v.0 0)) (functions_complete names text a.0 a.2 (a.1, a.3, a.4))
+    ∙ on_ok (end_at a.2) d.0 (λ end. done (rest_with [] [] a.0 0)) d.1 ∙ ap done (sym a.6)
 
 -- ---- the whole
 
@@ -151,6 +189,7 @@ whole names blocks equations inequations r = record {
   inequations = inequations;
   questions = r.questions;
   values = r.values;
+  functions = r.functions;
   document = r.document;
 }
 

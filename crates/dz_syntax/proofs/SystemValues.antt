@@ -13,7 +13,7 @@ use Rattle.dz_rank.specs.Symbols.{BelongsTo}
 use Rattle.dz_rank.specs.declared.symbols.Symbol.TheVariants.{Independent, Derivative}
 use Rattle.dz_syntax.specs.declared.fault.SyntaxFault.{SyntaxFault}
 use Rattle.dz_syntax.specs.declared.endings.Form.{Form}
-use Rattle.dz_syntax.specs.declared.endings.Form.TheVariants.{Plain, Questions, Values, Document}
+use Rattle.dz_syntax.specs.declared.endings.Form.TheVariants.{Plain, Questions, Values, Document, Functions}
 use Rattle.dz_syntax.specs.declared.system.SystemTree.{SystemTree}
 use Rattle.dz_syntax.specs.Tokens.{behind}
 use Rattle.dz_syntax.specs.Names.{Declared, signature_of}
@@ -85,6 +85,7 @@ rest_fits Plain total names text r a = subst (λ (r : Rest). AreFit names r.valu
 rest_fits Questions total names text r a = subst (λ (r : Rest). AreFit names r.values) (sym a.4) (no_values names)
 rest_fits Values total names text r a = subst (λ (r : Rest). AreFit names r.values) (sym a.6) (list_fit names a.1 a.0 a.2 a.4)
 rest_fits Document total names text r a = subst (λ (r : Rest). AreFit names r.values) (sym a.3) (no_values names)
+rest_fits Functions total names text r a = subst (λ (r : Rest). AreFit names r.values) (sym a.6) (no_values names)
 
 fit_values : (names : Declared) (t : Tree) → t.signature ≡ signature_of names → AreFit names t.values → HasValues t
 fit_values names t e fit = record {

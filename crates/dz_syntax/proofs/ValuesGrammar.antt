@@ -12,13 +12,15 @@ use Rattle.dz_syntax.specs.declared.fault.SyntaxKind.TheVariants.{Twice, Literal
 use Rattle.dz_syntax.specs.Tokens.{front, behind}
 use Rattle.dz_syntax.specs.Names.{Declared}
 use Rattle.dz_syntax.specs.Atoms.{literal_at, symbol_at}
-use Rattle.dz_syntax.specs.Faults.{◌>>=◌, refuse}
+use Rattle.dz_algebra.specs.Outcome.{◌>>=◌}
+use Rattle.dz_syntax.specs.Faults.{refuse}
 use Rattle.dz_syntax.specs.Expressions.{most_literal}
 use Rattle.dz_syntax.specs.Grammar.{IsNumber}
 use Rattle.dz_syntax.specs.Marks.{expected, is_equals, is_semicolon}
 use Rattle.dz_syntax.specs.Values.{fraction_of, numerator_from, numerator_at, positive_at, denominator_from, denominator_at, fraction_at, same_symbol, new_symbol_at, value_at, element_of}
 use Rattle.dz_syntax.specs.SystemGrammar.{IsNumerator, IsDenominator, IsValue}
-use Rattle.dz_syntax.proofs.Sound.{bind_ok, ok_is, literal_ok}
+use Rattle.dz_algebra.proofs.Outcomes.{bind_ok}
+use Rattle.dz_syntax.proofs.Sound.{ok_is, literal_ok}
 use Rattle.dz_syntax.proofs.Complete.{on_ok, literal_complete, symbol_front}
 use Rattle.dz_syntax.proofs.Shorter.{behind_within, symbol_within}
 use Rattle.dz_syntax.proofs.NamesGrammar.{stands_sound, stands_complete}

@@ -12,7 +12,8 @@ use Rattle.dz_rank.specs.Symbols.{identity}
 use Rattle.dz_syntax.specs.Tokens.{front, behind, bytes_of}
 use Rattle.dz_syntax.specs.Names.{Declared, find}
 use Rattle.dz_syntax.specs.Numbers.{number_from, at_most}
-use Rattle.dz_syntax.specs.Faults.{◌>>=◌, refuse, unexpected_kind}
+use Rattle.dz_algebra.specs.Outcome.{◌>>=◌}
+use Rattle.dz_syntax.specs.Faults.{refuse, unexpected_kind}
 
 -- a number that may have passed its bound
 abbrev pub number_or : SyntaxKind → List ℕ → Option ℕ → Result (ℕ × List ℕ) Fault

@@ -6,7 +6,8 @@ use Rattle.dz_syntax.specs.declared.fault.Fault.{Fault}
 use Rattle.dz_syntax.specs.declared.names.Group.TheVariants.{Independents, Dependents}
 use Rattle.dz_syntax.specs.Tokens.{front, behind}
 use Rattle.dz_syntax.specs.Names.{Declared, dependents, room}
-use Rattle.dz_syntax.specs.Faults.{◌>>=◌, refuse, unexpected_kind}
+use Rattle.dz_algebra.specs.Outcome.{◌>>=◌}
+use Rattle.dz_syntax.specs.Faults.{refuse, unexpected_kind}
 use Rattle.dz_syntax.specs.Marks.{expected, is_derivations, is_semicolon, is_open_bracket, is_close_bracket, kind_of}
 use Rattle.dz_syntax.specs.Declarations.{declarations}
 

@@ -7,7 +7,8 @@ use Rattle.dz_syntax.specs.declared.fault.SyntaxKind.TheVariants.{Twice, Names}
 use Rattle.dz_syntax.specs.declared.names.Group.{Group}
 use Rattle.dz_syntax.specs.Tokens.{front, behind, bytes_of}
 use Rattle.dz_syntax.specs.Names.{Declared, declared, known}
-use Rattle.dz_syntax.specs.Faults.{◌>>=◌, refuse, unexpected_kind}
+use Rattle.dz_algebra.specs.Outcome.{◌>>=◌}
+use Rattle.dz_syntax.specs.Faults.{refuse, unexpected_kind}
 
 -- a new name, where the token at the front is a name
 abbrev pub new_name_from : Declared → Token → List ℕ → Result (List ℕ) Fault

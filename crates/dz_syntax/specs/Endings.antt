@@ -6,25 +6,28 @@ use Rattle.dz_syntax.specs.declared.fault.Fault.{Fault}
 use Rattle.dz_syntax.specs.declared.fault.SyntaxKind.TheVariants.{Unexpected}
 use Rattle.dz_syntax.specs.declared.marks.Section.TheVariants as sections
 use Rattle.dz_syntax.specs.declared.endings.Form.{Form}
-use Rattle.dz_syntax.specs.declared.endings.Form.TheVariants.{Plain, Questions, Values, Document}
+use Rattle.dz_syntax.specs.declared.endings.Form.TheVariants.{Plain, Questions, Values, Document, Functions}
 use Rattle.dz_syntax.specs.declared.endings.Ending.{Ending}
 use Rattle.dz_syntax.specs.declared.expression.Op.{Op}
 use Rattle.dz_syntax.specs.Tokens.{front, behind, token_of}
 use Rattle.dz_syntax.specs.Names.{Declared}
-use Rattle.dz_syntax.specs.Faults.{◌>>=◌, refuse}
+use Rattle.dz_algebra.specs.Outcome.{◌>>=◌}
+use Rattle.dz_syntax.specs.Faults.{refuse}
 use Rattle.dz_syntax.specs.Marks.{expected, is_values, is_end, is_nothing, is_semicolon, separated}
 use Rattle.dz_syntax.specs.Sections.{section_at}
 use Rattle.dz_syntax.specs.Values.{element_of}
+use Rattle.dz_syntax.specs.Functions.{element_of as function_of}
 
 -- what a form has besides the system; the document by the place at which it begins, else 0
 pub record Rest : Type 0 where
   pub questions : List (List Op)
   pub values : List (Symbol × Fraction)
+  pub functions : List (ℕ × List Op)
   pub document : ℕ
 
 -- what was read, in the code's own type
 abbrev pub rest_of : Ending → Rest
-rest_of e = record { questions = e.questions.items; values = e.values.items; document = e.document }
+rest_of e = record { questions = e.questions.items; values = e.values.items; functions = e.functions.items; document = e.document }
 
 -- "end", and nothing behind it
 unfoldable pub end_at : List ℕ → Result (List ℕ) Fault
@@ -43,6 +46,17 @@ values_at names text = do
   text ← expected (is_values (front text)) text
   values_from names (is_semicolon (front text)) text
 
+-- [functions] ";", where the token at the front is a semicolon or is not
+abbrev pub functions_from : Declared → Bool → List ℕ → Result (List (ℕ × List Op) × List ℕ) Fault
+functions_from names true text = Ok ([], behind text)
+functions_from names false text = separated (function_of names) (length text + 1) [] text
+
+-- "values" [functions] ";"
+unfoldable pub functions_at : Declared → List ℕ → Result (List (ℕ × List Op) × List ℕ) Fault
+functions_at names text = do
+  text ← expected (is_values (front text)) text
+  functions_from names (is_semicolon (front text)) text
+
 -- behind a line feed
 abbrev pub line_from : List ℕ → Result (List ℕ) Fault
 line_from [] = refuse Unexpected []
@@ -58,15 +72,19 @@ document_at text = do
 unfoldable pub rest_at : Form → ℕ → Declared → List ℕ → Result Rest Fault
 rest_at Plain total names text = do
   end ← end_at text
-  Ok (record { questions = []; values = []; document = 0 })
+  Ok (record { questions = []; values = []; functions = []; document = 0 })
 rest_at Questions total names text = do
   q ← section_at sections.Questions names text
   end ← end_at q.1
-  Ok (record { questions = q.0; values = []; document = 0 })
+  Ok (record { questions = q.0; values = []; functions = []; document = 0 })
 rest_at Values total names text = do
   v ← values_at names text
   end ← end_at v.1
-  Ok (record { questions = []; values = v.0; document = 0 })
+  Ok (record { questions = []; values = v.0; functions = []; document = 0 })
 rest_at Document total names text = do
   document ← document_at text
-  Ok (record { questions = []; values = []; document = total - length document })
+  Ok (record { questions = []; values = []; functions = []; document = total - length document })
+rest_at Functions total names text = do
+  f ← functions_at names text
+  end ← end_at f.1
+  Ok (record { questions = []; values = []; functions = f.0; document = 0 })

@@ -9,7 +9,8 @@ use Rattle.dz_syntax.specs.declared.expression.Op.TheVariants as ops
 use Rattle.dz_syntax.specs.Tokens.{front, behind}
 use Rattle.dz_syntax.specs.Names.{Declared}
 use Rattle.dz_syntax.specs.Atoms.{literal_at, symbol_at}
-use Rattle.dz_syntax.specs.Faults.{◌>>=◌, refuse, unexpected_kind}
+use Rattle.dz_algebra.specs.Outcome.{◌>>=◌}
+use Rattle.dz_syntax.specs.Faults.{refuse, unexpected_kind}
 
 -- the steps so far, and the text that is left, at a token
 pub record State : Type 0 where

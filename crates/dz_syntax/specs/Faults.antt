@@ -8,12 +8,6 @@ use Rattle.dz_syntax.specs.declared.fault.SyntaxKind.TheVariants.{BadByte, Unexp
 use Rattle.dz_syntax.specs.declared.fault.Stop.{Stop}
 use Rattle.dz_syntax.specs.declared.fault.Stop.TheVariants as stops
 
--- the first reader, and then the second on what it gave; the first fault stops both
-infixl 10 ◌>>=◌
-abbrev pub ◌>>=◌ : {A B : Type 0} → Result A Fault → (A → Result B Fault) → Result B Fault
-(Ok x) >>= f = f x
-(Err e) >>= f = Err e
-
 -- a fault at the token at the front of a text
 abbrev pub refuse : {A : Type 0} → SyntaxKind → List ℕ → Result A Fault
 refuse k text = Err (record { left = length text; kind = k })

@@ -14,6 +14,7 @@ before_document tree place = record {
   inequations = tree.inequations;
   questions = [];
   values = [];
+  functions = [];
   document = place;
 }
 

@@ -8,7 +8,7 @@ use Rattle.dz_syntax.specs.declared.fault.SyntaxFault.{SyntaxFault}
 use Rattle.dz_syntax.specs.declared.expression.Op.{Op}
 use Rattle.dz_syntax.specs.Tokens.{front, skip_from}
 use Rattle.dz_syntax.specs.Names.{Declared}
-use Rattle.dz_syntax.specs.Faults.{◌>>=◌}
+use Rattle.dz_algebra.specs.Outcome.{◌>>=◌}
 use Rattle.dz_syntax.specs.Expressions.{State, unexpected, poly_with, inside}
 use Rattle.dz_syntax.specs.Grammar.{IsPoly, IsInside}
 

@@ -8,6 +8,7 @@ pub mod Marks
 pub mod Blocks
 pub mod Sections
 pub mod Values
+pub mod Functions
 pub mod Endings
 pub mod Systems
 pub mod Grammar

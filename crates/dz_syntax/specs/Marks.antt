@@ -8,7 +8,8 @@ use Rattle.dz_syntax.specs.declared.fault.Fault.{Fault}
 use Rattle.dz_syntax.specs.declared.marks.Section.{Section}
 use Rattle.dz_syntax.specs.declared.marks.Section.TheVariants.{Equations, Inequations, Questions}
 use Rattle.dz_syntax.specs.Tokens.{front, behind}
-use Rattle.dz_syntax.specs.Faults.{◌>>=◌, refuse, unexpected_kind}
+use Rattle.dz_algebra.specs.Outcome.{◌>>=◌}
+use Rattle.dz_syntax.specs.Faults.{refuse, unexpected_kind}
 
 -- the word before the independents
 abbrev pub is_derivations : Token → Bool

@@ -1,10 +1,12 @@
 -- The grammar of systems. A relation says that between two texts, each at a token, stands a part with this meaning.
-use Rattle.std.specs.Prelude.{◌≡◌, ◌⊎◌, ◌-◌, ◌<◌, ℕ, zero, suc, Bool, true, false, List, [], ◌∷◌, ◌++◌, drop, length, map, ℤ, pos, Ok, Some}
+use Rattle.std.specs.Prelude.{◌≡◌, ◌⊎◌, ◌-◌, ◌<◌, ◌==◌, ℕ, zero, suc, Bool, true, false, List, [], ◌∷◌, ◌++◌, drop, length, map, ℤ, pos, Ok, Some}
 use Rattle.std.specs.List.{list_any}
 use Rattle.dz_int.specs.Numbers.{signed}
 use Rattle.dz_int.specs.Fractions.{Fraction}
 use Rattle.dz_rank.specs.declared.rankings.Kind.{Kind}
+use Rattle.dz_rank.specs.declared.symbols.Operator.{Operator}
 use Rattle.dz_rank.specs.declared.symbols.Symbol.{Symbol}
+use Rattle.dz_rank.specs.declared.symbols.Symbol.TheVariants.{Derivative}
 use Rattle.dz_rank.specs.Rankings.{BlockValue}
 use Rattle.dz_syntax.specs.declared.token.Token.{Token}
 use Rattle.dz_syntax.specs.declared.token.Token.TheVariants.{Name, Comma, Minus, Slash}
@@ -17,13 +19,14 @@ use Rattle.dz_syntax.specs.declared.endings.Form.TheVariants as forms
 use Rattle.dz_syntax.specs.declared.expression.Op.{Op}
 use Rattle.dz_syntax.specs.declared.expression.Op.TheVariants as ops
 use Rattle.dz_syntax.specs.Tokens.{front, behind, bytes_of, token_of, skip_from}
-use Rattle.dz_syntax.specs.Names.{Declared, declared, dependents, known, no_names, room, signature_of}
+use Rattle.dz_syntax.specs.Names.{Declared, declared, dependents, find, known, no_names, room, signature_of}
 use Rattle.dz_syntax.specs.Atoms.{symbol_at}
 use Rattle.dz_syntax.specs.Expressions.{most_literal}
 use Rattle.dz_syntax.specs.Grammar.{IsNumber, IsPoly, IsInside}
 use Rattle.dz_syntax.specs.Marks.{is_derivations, is_ranking, is_word_of, is_relation, is_values, is_end, is_nothing, is_semicolon, is_open_bracket, is_close_bracket, is_equals, kind_of}
 use Rattle.dz_syntax.specs.Blocks.{numbers_from}
 use Rattle.dz_syntax.specs.Values.{fraction_of, same_symbol}
+use Rattle.dz_syntax.specs.Functions.{independents_alone}
 use Rattle.dz_syntax.specs.Endings.{Rest}
 use Rattle.dz_syntax.specs.Systems.{Tree}
 
@@ -131,22 +134,34 @@ IsValue names found text v rest =
     × (list_any (λ w. same_symbol s w) (map (λ u. u.0) found) ≡ false) × Stands is_equals first second
     × IsNumerator second z third × IsDenominator third d rest × (v ≡ (s, fraction_of z d))
 
+-- function = name "=" poly, of a dependent that has no function yet; the poly has independents alone
+abbrev pub IsFunction : Declared → Element (ℕ × List Op)
+IsFunction names found text f rest =
+    (d : ℕ) × (o : Operator) × (steps : List Op) × (second : List ℕ) × (front text ≡ Name)
+    × (find names (bytes_of text) ≡ Some (Derivative d o))
+    × (list_any (λ u. d == u) (map (λ h. h.0) found) ≡ false) × Stands is_equals (behind text) second
+    × IsPoly (independents_alone names) (IsInside (independents_alone names) 64) second steps rest × (f ≡ (d, steps))
+
 -- "end", and nothing behind it
 abbrev pub IsEnd : List ℕ → Type 0
 IsEnd text = (mid : List ℕ) × Stands is_end text mid × (is_nothing (front mid) ≡ true)
 
 -- what follows the inequations in a form; a document begins behind "end" and a line feed directly after it
 abbrev pub IsRest : Form → ℕ → Declared → List ℕ → Rest → Type 0
-IsRest forms.Plain total names text r = IsEnd text × (r ≡ record { questions = []; values = []; document = 0 })
+IsRest forms.Plain total names text r = IsEnd text × (r ≡ record { questions = []; values = []; functions = []; document = 0 })
 IsRest forms.Questions total names text r =
     (items : List (List Op)) × (mid : List ℕ) × IsSection sections.Questions names text items mid × IsEnd mid
-    × (r ≡ record { questions = items; values = []; document = 0 })
+    × (r ≡ record { questions = items; values = []; functions = []; document = 0 })
 IsRest forms.Values total names text r =
     (values : List (Symbol × Fraction)) × (first mid : List ℕ) × Stands is_values text first
-    × IsList (IsValue names) first values mid × IsEnd mid × (r ≡ record { questions = []; values = values; document = 0 })
+    × IsList (IsValue names) first values mid × IsEnd mid × (r ≡ record { questions = []; values = values; functions = []; document = 0 })
 IsRest forms.Document total names text r =
     (document : List ℕ) × (is_end (front text) ≡ true) × (drop (token_of text).1 text ≡ 10 ∷ document)
-    × (r ≡ record { questions = []; values = []; document = total - length document })
+    × (r ≡ record { questions = []; values = []; functions = []; document = total - length document })
+IsRest forms.Functions total names text r =
+    (functions : List (ℕ × List Op)) × (first mid : List ℕ) × Stands is_values text first
+    × IsList (IsFunction names) first functions mid × IsEnd mid
+    × (r ≡ record { questions = []; values = []; functions = functions; document = 0 })
 
 -- the bytes are a system in a form, and mean this tree
 abbrev pub IsSystem : Form → List ℕ → Tree → Type 0
@@ -163,5 +178,6 @@ IsSystem form bytes tree =
       inequations = inequations;
       questions = r.questions;
       values = r.values;
+      functions = r.functions;
       document = r.document;
     })

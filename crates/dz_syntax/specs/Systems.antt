@@ -1,5 +1,5 @@
 -- Reading a system from left to right.
-use Rattle.std.specs.Prelude.{◌≢◌, ◌≤◌, ℕ, ◌+◌, List, [], length, false, Result, Ok, All}
+use Rattle.std.specs.Prelude.{◌≢◌, ◌≤◌, ◌<◌, ℕ, ◌+◌, List, [], length, false, Result, Ok, All}
 use Rattle.std.specs.List.{AllPairs}
 use Rattle.dz_int.specs.Fractions.{Fraction}
 use Rattle.dz_rank.specs.declared.rankings.Signature.{Signature}
@@ -14,7 +14,7 @@ use Rattle.dz_syntax.specs.declared.system.SystemTree.{SystemTree}
 use Rattle.dz_syntax.specs.declared.expression.Op.{Op}
 use Rattle.dz_syntax.specs.Tokens.{front, skip_from}
 use Rattle.dz_syntax.specs.Names.{Declared, no_names, signature_of}
-use Rattle.dz_syntax.specs.Faults.{◌>>=◌}
+use Rattle.dz_algebra.specs.Outcome.{◌>>=◌}
 use Rattle.dz_syntax.specs.Marks.{expected, is_ranking}
 use Rattle.dz_syntax.specs.Blocks.{independents_at, blocks}
 use Rattle.dz_syntax.specs.Sections.{section_at}
@@ -31,6 +31,7 @@ pub record Tree : Type 0 where
   pub inequations : List (List Op)
   pub questions : List (List Op)
   pub values : List (Symbol × Fraction)
+  pub functions : List (ℕ × List Op)
   pub document : ℕ
 
 -- what a tree of the code's own type means
@@ -43,6 +44,7 @@ tree_of t = record {
   inequations = t.inequations.items;
   questions = t.questions.items;
   values = t.values.items;
+  functions = t.functions.items;
   document = t.document;
 }
 
@@ -68,6 +70,7 @@ system_at form bytes = do
     inequations = i.0;
     questions = r.questions;
     values = r.values;
+    functions = r.functions;
     document = r.document;
   })
 
@@ -90,3 +93,9 @@ pub record HasValues (t : Tree) : Type 0 where
   pub belong : All (λ p. BelongsTo t.signature p.0) t.values
   pub low : All (λ p. total_order p.0 ≤ 60) t.values
   pub distinct : AreDistinct t.values
+
+-- the functions of a tree are of distinct dependents, and expressions in independents alone
+pub record HasFunctions (t : Tree) : Type 0 where
+  pub belong : All (λ f. f.0 < t.signature.dependents) t.functions
+  pub plain : All (λ f. IsExpression (record { independents = t.signature.independents; dependents = 0 }) f.1) t.functions
+  pub distinct : AllPairs (λ f h. f.0 ≢ h.0) t.functions

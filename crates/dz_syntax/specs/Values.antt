@@ -5,7 +5,7 @@ use Rattle.std.specs.List.{list_any}
 use Rattle.std.specs.Int.{is_negative}
 use Rattle.dz_int.specs.Numbers.{signed}
 use Rattle.dz_int.specs.Fractions.{Fraction}
-use Rattle.dz_int.specs.Euclid.{gcd}
+use Rattle.dz_algebra.specs.Norm.{gcd}
 use Rattle.dz_rank.specs.declared.symbols.Symbol.{Symbol}
 use Rattle.dz_rank.specs.declared.symbols.Symbol.TheVariants.{Independent, Derivative}
 use Rattle.dz_syntax.specs.declared.token.Token.{Token}
@@ -15,7 +15,8 @@ use Rattle.dz_syntax.specs.declared.fault.SyntaxKind.TheVariants.{Twice, Literal
 use Rattle.dz_syntax.specs.Tokens.{front, behind}
 use Rattle.dz_syntax.specs.Names.{Declared}
 use Rattle.dz_syntax.specs.Atoms.{literal_at, symbol_at}
-use Rattle.dz_syntax.specs.Faults.{◌>>=◌, refuse}
+use Rattle.dz_algebra.specs.Outcome.{◌>>=◌}
+use Rattle.dz_syntax.specs.Faults.{refuse}
 use Rattle.dz_syntax.specs.Expressions.{most_literal}
 use Rattle.dz_syntax.specs.Marks.{expected, is_equals}
 

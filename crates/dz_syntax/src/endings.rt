@@ -2,9 +2,11 @@
 
 ghost use Rattle.std.specs.Prelude.{◌≡◌};
 ghost use Rattle.dz_syntax.specs.Faults.{Gives};
-ghost use Rattle.dz_syntax.specs.Endings.{document_at, end_at, rest_at, rest_of, values_at};
+ghost use Rattle.dz_syntax.specs.Endings.{document_at, end_at, functions_at, rest_at, rest_of};
+ghost use Rattle.dz_syntax.specs.Endings.{values_at};
 
 use crate::fault::{Stop, SyntaxKind, fault_at};
+use crate::functions::functions;
 use crate::item::Item;
 use crate::marks::{Section, end_word, expected, nothing, semicolon, values_word};
 use crate::names::Names;
@@ -26,6 +28,8 @@ pub enum Form {
     Values,
     /// `end`, a line feed directly after it, and a document.
     Document,
+    /// `values`, functions, `;` and `end`.
+    Functions,
 }
 
 /// What a form has besides the system.
@@ -33,6 +37,7 @@ pub enum Form {
 pub struct Ending {
     pub questions: Vec<Item>,
     pub values: Vec<(Symbol, Frac)>,
+    pub functions: Vec<(u8, Item)>,
     pub document: usize,
 }
 
@@ -64,6 +69,25 @@ fn value_list<'a>(
     Ok((found, text))
 }
 
+// Reads the functions, with the word before them and the semicolon after them.
+#[tactic(auto, unfolding(crate::specs::Endings::functions_at))]
+fn function_list<'a>(
+    alloc: Global,
+    names: &Names,
+    text: &'a [u8],
+) -> Result<(Vec<(u8, Item)>, &'a [u8]), Stop>
+    ensures read { Gives (λ x. (x.0.items, x.1.now)) result (functions_at names.now text.now) }
+{
+    let mut found = Vec::new(alloc);
+    let text = expected(values_word(text), text)?;
+    if semicolon(text) {
+        let (_, after) = next(text);
+        return Ok((found, after));
+    }
+    let text = functions(alloc, names, &mut found, text)?;
+    Ok((found, text))
+}
+
 // Reads `end` and the line feed directly after it: what is left is the document.
 #[tactic(auto, unfolding(crate::specs::Endings::document_at))]
 fn document(text: &[u8]) -> Result<&[u8], Stop>
@@ -91,6 +115,7 @@ pub(crate) fn rest(
     let mut ending = Ending {
         questions: Vec::new(alloc),
         values: Vec::new(alloc),
+        functions: Vec::new(alloc),
         document: 0,
     };
     match form {
@@ -110,6 +135,11 @@ pub(crate) fn rest(
         Form::Document => {
             let document = document(text)?;
             ending.document = total.saturating_sub(document.len());
+        }
+        Form::Functions => {
+            let (functions, text) = function_list(alloc, names, text)?;
+            end(text)?;
+            ending.functions = functions;
         }
     }
     Ok(ending)

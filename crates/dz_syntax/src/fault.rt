@@ -18,7 +18,7 @@ pub enum SyntaxKind {
     Unexpected,
     /// The name is not declared, or not as what stands here.
     Unknown,
-    /// The name is declared already, or the symbol has a value already.
+    /// The name is declared already, or the symbol has a value or a function already.
     Twice,
     /// A coefficient, numerator or denominator above `2^127 - 1`.
     Literal,

@@ -8,6 +8,7 @@ mod declaration;
 mod endings;
 mod expression;
 mod fault;
+mod functions;
 mod item;
 mod marks;
 mod names;

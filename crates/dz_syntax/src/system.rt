@@ -6,8 +6,8 @@ ghost use Rattle.dz_syntax.specs.Faults.{Gives};
 ghost use Rattle.dz_syntax.specs.Following.{IsFollowed};
 ghost use Rattle.dz_syntax.specs.Names.{no_names, signature_of};
 ghost use Rattle.dz_syntax.specs.Items.{Answers};
-ghost use Rattle.dz_syntax.specs.Systems.{HasExpressions, HasValues, Tree, header_at, system_at};
-ghost use Rattle.dz_syntax.specs.Systems.{system_of, tree_of};
+ghost use Rattle.dz_syntax.specs.Systems.{HasExpressions, HasFunctions, HasValues, Tree, header_at};
+ghost use Rattle.dz_syntax.specs.Systems.{system_at, system_of, tree_of};
 ghost use Rattle.dz_syntax.specs.SystemGrammar.{IsSystem};
 ghost use Rattle.dz_syntax.specs.declared.endings.Form.{Form};
 ghost use Rattle.dz_syntax.specs.declared.endings.Form.TheVariants.{Plain};
@@ -38,6 +38,8 @@ pub struct SystemTree {
     pub questions: Vec<Item>,
     /// The values of the form with values; else none.
     pub values: Vec<(Symbol, Frac)>,
+    /// The functions of the form with functions, by the numbers of their dependents; else none.
+    pub functions: Vec<(u8, Item)>,
     /// The place at which the document of the form with a document begins; else 0.
     pub document: usize,
 }
@@ -79,6 +81,7 @@ fn system(alloc: Global, bytes: &[u8], form: Form) -> Result<SystemTree, Stop>
         inequations,
         questions: ending.questions,
         values: ending.values,
+        functions: ending.functions,
         document: ending.document,
     })
 }
@@ -115,6 +118,8 @@ pub fn read_system(alloc: Global, bytes: &[u8], form: Form) -> Result<SystemTree
     ensures expressions { IfOk result (λ t. HasExpressions (tree_of t)) }
     // What is read has values of distinct symbols of the signature.
     ensures values { IfOk result (λ t. HasValues (tree_of t)) }
+    // What is read has functions of distinct dependents, which are expressions in independents alone.
+    ensures functions { IfOk result (λ t. HasFunctions (tree_of t)) }
     // The blocks that are read name each dependent of the signature exactly once.
     ensures ranking { IfOk result (λ t. IsRanking
         (record { signature = (tree_of t).signature; blocks = (tree_of t).blocks })) }

@@ -3,6 +3,7 @@ use Rattle.dz_syntax.specs.Items.{Answers}
 use Rattle.dz_syntax.specs.Systems.{tree_of}
 use Rattle.dz_syntax.proofs.Ranked.{have_ranking, have_signature}
 use Rattle.dz_syntax.proofs.SystemExpressions.{have_expressions}
+use Rattle.dz_syntax.proofs.SystemFunctions.{have_functions}
 use Rattle.dz_syntax.proofs.SystemValues.{have_values}
 use Rattle.dz_syntax.proofs.SystemReadings.{is_found_system, system_again}
 use Rattle.dz_syntax.proofs.system.read_system.Goals as goal
@@ -18,6 +19,9 @@ returns-clause-expressions c = have_expressions c.args.form c.args.bytes.now c.p
 
 pub returns-clause-values : goal.returns-clause-values
 returns-clause-values c = have_values c.args.form c.args.bytes.now c.placed_system.result c.placed_system.ensures
+
+pub returns-clause-functions : goal.returns-clause-functions
+returns-clause-functions c = have_functions c.args.form c.args.bytes.now c.placed_system.result c.placed_system.ensures
 
 pub returns-clause-ranking : goal.returns-clause-ranking
 returns-clause-ranking c = have_ranking c.args.form c.args.bytes.now c.placed_system.result c.placed_system.ensures

@@ -1,0 +1,4 @@
+pub mod Substitution
+pub mod Evaluation
+pub mod FunctionPoints
+pub mod Solutions
