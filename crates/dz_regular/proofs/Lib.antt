@@ -1,0 +1,12 @@
+pub mod RowSums
+pub mod RowPasses
+pub mod RowMultipliers
+pub mod Members
+pub mod Relations
+pub mod RunSteps
+pub mod RunRows
+pub mod RowPoints
+pub mod KeptRows
+pub mod AnswerRows
+pub mod RunSymbols
+pub mod RunReplays

@@ -1,0 +1,10 @@
+pub mod Rows
+pub mod Combining
+pub mod Runs
+pub mod Identities
+pub mod Answers
+pub mod Working
+pub mod Progress
+pub mod Laws
+pub mod Points
+pub mod Replays
