@@ -5,7 +5,7 @@ use Rattle.std.proofs.lemmas.List.{length-append, append_assoc, append-nil, take
 use Rattle.std.proofs.Math.Seq.{take-append_seam}
 use Rattle.dz_arena.proofs.Lists.{part_of_front}
 use Rattle.dz_arena.specs.Chunks.{Held}
-use Rattle.dz_arena.specs.Stacks.{pile_of, cells_of, spare_of, end_or, AreChunks, BeginsIn, IsWithin, HasRoom, InOneChunk, Lies, IsMarkOf, start_of, restored}
+use Rattle.dz_arena.specs.Stacks.{pile_of, cells_of, spare_of, end_or, AreChunks, BeginsIn, IsWithin, HasRoom, HasRoomFor, InOneChunk, Lies, IsMarkOf, start_of, restored}
 use Rattle.dz_arena.specs.declared.stack.Run.{Run}
 use Rattle.dz_arena.specs.declared.stack.Mark.{Mark}
 
@@ -104,6 +104,38 @@ module _ {X : Type 0} where
   pub as_many : (hs : List (Held X)) (h g : Held X) → length (hs ++ g ∷ []) ≡ length (hs ++ h ∷ [])
   as_many [] h g = refl
   as_many (f ∷ hs) h g = ap suc (as_many hs h g)
+
+  -- ---- many cells at once
+  -- a chunk with more cells on top
+  pub more_cells : (at : ℕ) (hs : List (Held X)) (h g : Held X) (xs : List X) → AreChunks at (hs ++ h ∷ []) → length h.cells + length xs ≤ h.room
+      → (g.begin ≡ h.begin) × (g.room ≡ h.room) × (g.cells ≡ h.cells ++ xs) → AreChunks at (hs ++ g ∷ [])
+  more_cells at [] h g xs a lt e = (e.0 ∙ a.0, omega (arith, lt, e.1, ap length e.2, length-append h.cells xs), omega (arith, e.0, e.1, a.2), tt)
+  more_cells at (f ∷ hs) h g xs a lt e = (a.0, a.1, a.2, more_cells (at + length f.cells) hs h g xs a.3 lt e)
+
+  -- and its cells are the last of all
+  pub cells_put : (hs : List (Held X)) (h g : Held X) (xs : List X) → g.cells ≡ h.cells ++ xs → cells_of (hs ++ g ∷ []) ≡ cells_of (hs ++ h ∷ []) ++ xs
+  cells_put [] h g xs e = append-nil g.cells ∙ e ∙ ap (λ ys. ys ++ xs) (sym (append-nil h.cells))
+  cells_put (f ∷ hs) h g xs e = ap (λ ys. f.cells ++ ys) (cells_put hs h g xs e) ∙ sym (append_assoc f.cells (cells_of (hs ++ h ∷ [])) xs)
+
+  -- a begun run with room for them has it in the top chunk
+  pub room_for : (hs : List (Held X)) (h : Held X) (count : ℕ) (begun : Option Run) → AreChunks 0 (hs ++ h ∷ []) → IsWithin (pile_of (hs ++ h ∷ []) begun)
+      → HasRoomFor count (pile_of (hs ++ h ∷ []) begun) → length h.cells + count ≤ h.room
+  room_for hs h count None a w r = absurd r
+  room_for hs h count (Some run) a w r = omega (arith, r, w.2, (last_chunk 0 hs h a).begins, cells_of-snoc hs h, end_of_last 0 hs h)
+
+  -- the begun run has the cells then
+  pub put_within : (hs : List (Held X)) (h g : Held X) (xs : List X) (begun : Option Run) → (g.begin ≡ h.begin) × (g.room ≡ h.room) × (g.cells ≡ h.cells ++ xs)
+      → IsWithin (pile_of (hs ++ h ∷ []) begun) → HasRoomFor (length xs) (pile_of (hs ++ h ∷ []) begun) → IsWithin (pile_of (hs ++ g ∷ []) begun)
+  put_within hs h g xs None e w r = tt
+  put_within hs h g xs (Some run) e w r =
+      let longer : length (cells_of (hs ++ g ∷ [])) ≡ length (cells_of (hs ++ h ∷ [])) + length xs = ap length (cells_put hs h g xs e.2) ∙ length-append (cells_of (hs ++ h ∷ [])) xs in
+      (omega (arith, w.0, longer), omega (arith, r, longer), omega (arith, w.2, end_of_last 0 hs h, end_of_last 0 hs g, e.0, e.1))
+
+  -- no run is begun where there is no chunk, so that nothing can be put
+  pub no_room : (count : ℕ) (hs : List (Held X)) (begun : Option Run) → hs ≡ [] → IsWithin (pile_of hs begun) → HasRoomFor count (pile_of hs begun) → count ≡ 0
+  no_room count hs None e w r = absurd r
+  no_room count [] (Some run) e w r = omega (arith, r, w.2)
+  no_room count (h ∷ hs) (Some run) e w r = cc
 
   -- chunks that lie lower end where a later one begins
   ends_below : (at : ℕ) (hs : List (Held X)) (from count : ℕ) → AreChunks at hs → Lies hs from count → from + count ≤ at + length (cells_of hs)

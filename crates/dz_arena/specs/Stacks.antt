@@ -57,6 +57,10 @@ with_cells p cells = record { cells = cells; chunks = p.chunks; begun = p.begun 
 abbrev pub HasRoom : {X : Type 0} → Pile X → Type 0
 HasRoom p = elim p.begun [ None ↦ ⊥ | Some run ↦ length p.cells < run.beginning + run.length ]
 
+-- a run is begun that lacks at least so many of its cells
+abbrev pub HasRoomFor : {X : Type 0} → ℕ → Pile X → Type 0
+HasRoomFor count p = elim p.begun [ None ↦ ⊥ | Some run ↦ length p.cells + count ≤ run.beginning + run.length ]
+
 -- where chunk number k begins, counted from 0, or the end of the list where there are no more than k
 abbrev pub start_of : {X : Type 0} → ℕ → Pile X → ℕ
 start_of k p = get_or (map (λ c. c.0) p.chunks) k (length p.cells)

@@ -1,6 +1,6 @@
 //! Chunks of cells.
 
-ghost use Rattle.std.specs.Prelude.{◌≡◌, ◌+◌, ◌<◌, ◌≤◌, [], ◌∷◌, ◌++◌, length, take, drop, IfOk, ⊤};
+ghost use Rattle.std.specs.Prelude.{◌≡◌, ◌+◌, ◌<◌, ◌≤◌, ◌^◌, [], ◌∷◌, ◌++◌, length, take, drop, IfOk, ⊤};
 
 use crate::block::{Block, Start, Title, allocate, deallocate, may_hold};
 use std::alloc::{AllocError, Global};
@@ -133,5 +133,40 @@ impl<T> Chunk<T> {
         ensures { result.now ≡ take count (drop from self.now.cells) }
     {
         self.block.slice(self.start, from, count)
+    }
+}
+
+impl<T: Copy> Chunk<T> {
+    ghost use Rattle.std.specs.Prelude.{◌≡◌, ◌+◌, ◌≤◌, ◌++◌, length};
+
+    /// Appends cells.
+    pub(crate) fn push_all(&mut self, cells: &[T])
+        requires { length self.old.cells + length cells.now ≤ self.old.room }
+        ensures { (self.new.begin ≡ self.old.begin) × (self.new.room ≡ self.old.room)
+            × (self.new.cells ≡ self.old.cells ++ cells.now) }
+    {
+        let len = self.len;
+        let _room = self.room;
+        put_all(&mut self.block, self.start, len, cells);
+        self.len = len + cells.len();
+    }
+}
+
+/// Writes cells from an index on. It reads and writes no length, so that the cells are copied as a
+/// whole.
+fn put_all<T: Copy>(block: &mut Block<T>, start: Start<T>, index: usize, cells: &[T])
+    requires start { start.first ≡ block.old.start }
+    requires index { index ≤ length block.old.cells }
+    requires within { length block.old.cells ≤ block.old.room }
+    requires room { index + length cells.now ≤ block.old.room }
+    requires in_range { index + length cells.now < 2 ^ 64 }
+    ensures same { (block.new.start ≡ block.old.start) × (block.new.room ≡ block.old.room) }
+    ensures written { index + length cells.now ≤ length block.new.cells }
+    ensures within { length block.new.cells ≤ block.new.room }
+    ensures cells { take (index + length cells.now) block.new.cells
+        ≡ take index block.old.cells ++ cells.now }
+{
+    for i in 0..cells.len() {
+        block.write(start, index + i, cells[i]);
     }
 }

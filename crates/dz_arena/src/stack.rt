@@ -60,7 +60,7 @@ impl<T: Copy> Model for Stack<T> {
 
 impl<T: Copy> Stack<T> {
     ghost use Rattle.std.specs.Prelude.{◌≡◌, ◌≢◌, ◌+◌, ◌-◌, ◌<◌, ◌≤◌, [], ◌∷◌, ◌++◌, length, take, drop, None, Some, IfSome, OnOk, OnErr, IsOk};
-    ghost use Rattle.dz_arena.specs.Stacks.{Pile, spare_of, with_run, with_cells, HasRoom, InOneChunk, IsMarkOf, restored, IsGrown};
+    ghost use Rattle.dz_arena.specs.Stacks.{Pile, spare_of, with_run, with_cells, HasRoom, HasRoomFor, InOneChunk, IsMarkOf, restored, IsGrown};
 
     /// A stack without cells and without chunks.
     pub fn new(alloc: Global) -> Stack<T>
@@ -119,6 +119,20 @@ impl<T: Copy> Stack<T> {
     {
         match &mut self.top {
             Some(top) => top.push(cell),
+            None => unreachable!(),
+        }
+    }
+
+    /// Appends cells to the begun run.
+    pub fn push_all(&mut self, cells: &[T])
+        requires { HasRoomFor (length cells.now) self.old }
+        ensures { self.new ≡ with_cells self.old (self.old.cells ++ cells.now) }
+    {
+        if cells.is_empty() {
+            return;
+        }
+        match &mut self.top {
+            Some(top) => top.push_all(cells),
             None => unreachable!(),
         }
     }

@@ -1,0 +1,4 @@
+pub mod RowMonomials
+pub mod Merged
+pub mod Finished
+pub mod Contributed
