@@ -25,25 +25,9 @@ mod running;
 mod telling;
 
 use crate::telling::tell_all;
-use dz_outside::{StdSink, StdSource, read_all, write_all};
+use dz_case::answer_input;
 use std::process::ExitCode;
 
-/// The most bytes of an input.
-const MOST_BYTES: usize = 16_777_216;
-
 fn main(rt: HostRuntime) -> ExitCode {
-    let alloc = rt.alloc();
-    let mut input = StdSource::new(rt.stdin());
-    let mut out = StdSink::new(rt.stdout());
-    let Ok(bytes) = read_all(alloc, &mut input, MOST_BYTES) else {
-        return ExitCode::from(1);
-    };
-    let mut told = Vec::new(alloc);
-    let Ok(()) = tell_all(alloc, &bytes, &mut told) else {
-        return ExitCode::from(1);
-    };
-    match write_all(&mut out, &told) {
-        Ok(()) => ExitCode::from(0),
-        Err(_) => ExitCode::from(1),
-    }
+    answer_input(&rt, tell_all)
 }

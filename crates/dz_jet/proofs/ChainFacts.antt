@@ -13,15 +13,15 @@ use Rattle.dz_rank.specs.Symbols.{IsOperatorOf}
 use Rattle.dz_rank.specs.declared.symbols.Operator.{Operator}
 use Rattle.dz_rank.specs.declared.symbols.Symbol.{Symbol}
 use Rattle.dz_rank.specs.declared.symbols.Symbol.TheVariants.{Derivative}
-use Rattle.dz_terms.specs.Ranked.{symbols_under}
-use Rattle.dz_terms.proofs.SymbolLaws.{ranking_order}
-use Rattle.dz_diff.specs.Lists.{AllOf, SomeOf}
-use Rattle.dz_diff.specs.Outcome.{needs, numbered, told_as}
+use Rattle.dz_monomials.specs.Ranked.{symbols_under}
+use Rattle.dz_monomials.proofs.SymbolLaws.{ranking_order}
+use Rattle.dz_monomials.specs.Lists.{AllOf, SomeOf}
+use Rattle.dz_algebra.specs.Outcome.{needs, numbered, told_as}
 use Rattle.dz_diff.specs.Operations.{Setting}
 use Rattle.dz_diff.specs.Operators.{is_proper, divides, exponent_differences, quotient}
 use Rattle.dz_diff.specs.State.{State, at_place}
 use Rattle.dz_diff.specs.Tests.{Polynomials, is_equal, is_zero, same_symbol}
-use Rattle.dz_diff.proofs.Answers.{bind_ok, told_ok, then_ok, given_then, both, is_false}
+use Rattle.dz_algebra.proofs.Outcomes.{bind_ok, told_ok, then_ok, given_then, both, is_false}
 use Rattle.dz_diff.proofs.Places.{some_left, some_right}
 use Rattle.dz_move.proofs.RootStates.{or_none}
 use Rattle.dz_diff.proofs.LeaderBounds.{leader_degree}

@@ -14,12 +14,12 @@ use Rattle.dz_rank.specs.Rankings.{RankingValue, ranking_cmp, IsOrderly}
 use Rattle.dz_rank.specs.Symbols.{total_order}
 use Rattle.dz_rank.specs.declared.symbols.Operator.{Operator}
 use Rattle.dz_rank.specs.declared.symbols.Symbol.{Symbol}
-use Rattle.dz_terms.specs.Ranked.{symbols_under}
-use Rattle.dz_terms.proofs.SymbolLaws.{ranking_order}
+use Rattle.dz_monomials.specs.Ranked.{symbols_under}
+use Rattle.dz_monomials.proofs.SymbolLaws.{ranking_order}
 use Rattle.dz_diff.specs.Operations.{setting_of}
 use Rattle.dz_diff.specs.Operators.{is_proper}
 use Rattle.dz_diff.specs.State.{State}
-use Rattle.dz_diff.proofs.Answers.{ok_same}
+use Rattle.dz_algebra.proofs.Outcomes.{ok_same}
 use Rattle.dz_diff.proofs.Places.{taken}
 use Rattle.dz_step.specs.declared.Which.TheVariants.{Initial, Separant}
 use Rattle.dz_step.specs.Step.{multiplier_answer}

@@ -3,12 +3,12 @@ use Rattle.std.specs.List.{filter, find}
 use Rattle.std.proofs.Common.{◌≡◌, inl, inr, ◌∙◌, suc, Bool, true, false, not, ◌||◌, cond, All, List, [], ◌∷◌, Some, None, sym, refl, ap, subst, arith}
 use Rattle.dz_rank.specs.Rankings.{RankingValue}
 use Rattle.dz_rank.specs.declared.symbols.Symbol.{Symbol}
-use Rattle.dz_terms.specs.Ranked.{symbols_under}
+use Rattle.dz_monomials.specs.Ranked.{symbols_under}
 use Rattle.dz_diff.specs.Tests.{same_symbol}
-use Rattle.dz_diff.proofs.Answers.{either}
+use Rattle.dz_algebra.proofs.Outcomes.{either}
 use Rattle.dz_jet.specs.Jets.{is_among}
 use Rattle.dz_jet.proofs.JetLists.{itself_same, same_is}
-use Rattle.dz_jet.proofs.JetSymbols.{In}
+use Rattle.dz_parametric.proofs.Members.{In}
 
 pub in_filter : {A : Type 0} (test : A → Bool) (xs : List A) (x : A) → In x (filter test xs) → In x xs
 in_filter test [] x h = absurd h

@@ -7,7 +7,7 @@ use Rattle.dz_poly.specs.Books.{BookValue, IsBook, Lives, polynomial}
 use Rattle.dz_rank.specs.Symbols.{HasFourExponents, IsDerivativeBy}
 use Rattle.dz_rank.specs.declared.symbols.Operator.{Operator}
 use Rattle.dz_rank.specs.declared.symbols.Symbol.{Symbol}
-use Rattle.dz_terms.specs.Ranked.{symbols_under}
+use Rattle.dz_monomials.specs.Ranked.{symbols_under}
 use Rattle.dz_diff.specs.Operators.{is_proper, quotient}
 use Rattle.dz_diff.specs.Tests.{Polynomials}
 use Rattle.dz_step.proofs.DivisorTables.{quotient_found, quotient_missing}

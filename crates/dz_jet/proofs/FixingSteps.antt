@@ -11,10 +11,10 @@ use Rattle.dz_poly.proofs.Books.{kept_polynomial, lives_on, means_lives}
 use Rattle.dz_rank.specs.Rankings.{RankingValue, ranking_cmp}
 use Rattle.dz_rank.specs.Symbols.{BelongsTo, IsOperatorOf, is_derivative}
 use Rattle.dz_rank.specs.declared.symbols.Symbol.{Symbol}
-use Rattle.dz_terms.specs.Ranked.{symbols_under}
-use Rattle.dz_diff.specs.Lists.{AllOf}
+use Rattle.dz_monomials.specs.Ranked.{symbols_under}
+use Rattle.dz_monomials.specs.Lists.{AllOf}
 use Rattle.dz_diff.specs.Operations.{Setting, operator_answer, setting_of}
-use Rattle.dz_diff.specs.Outcome.{◌>>=◌, given, told_as}
+use Rattle.dz_algebra.specs.Outcome.{◌>>=◌, given, told_as}
 use Rattle.dz_diff.specs.State.{State}
 use Rattle.dz_diff.specs.Operators.{is_proper}
 use Rattle.dz_diff.specs.States.{LiveAll, polynomials}
@@ -35,7 +35,8 @@ use Rattle.dz_jet.specs.Fractions.{whole, fraction_negative, quotient_answer}
 use Rattle.dz_jet.specs.Jets.{Leading, Values, fixed_value, independents_of, leading_to, refused_at, value_answer, value_from, value_in, with_value, with_values}
 use Rattle.dz_jet.specs.Making.{IsMade}
 use Rattle.dz_jet.specs.Stops.{IsFault}
-use Rattle.dz_jet.specs.Tables.{IsBegun, IsRising, IsTable, keys}
+use Rattle.dz_jet.specs.Tables.{IsBegun, IsTable, keys}
+use Rattle.dz_parametric.specs.Orders.{IsRising}
 use Rattle.dz_jet.proofs.FoldValues.{inverse_is}
 use Rattle.dz_jet.proofs.FractionAnswers.{product_answered}
 use Rattle.dz_jet.proofs.FractionLaws.{itself, negative_is}

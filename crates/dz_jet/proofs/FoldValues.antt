@@ -14,8 +14,8 @@ use Rattle.dz_int.specs.Numbers.{signed}
 use Rattle.dz_int.proofs.Signs.{by_sign, unsigned_abs_signed}
 use Rattle.std.specs.Int.{IsGcd, is_negative}
 use Rattle.dz_rank.specs.declared.symbols.Symbol.{Symbol}
-use Rattle.dz_diff.specs.Outcome.{given}
-use Rattle.dz_diff.proofs.Answers.{ok_same}
+use Rattle.dz_algebra.specs.Outcome.{given}
+use Rattle.dz_algebra.proofs.Outcomes.{ok_same}
 use Rattle.dz_jet.specs.Fractions.{whole, fraction_sum, fraction_product, fraction_negative, fraction_arithmetic, fraction_operations, is_reduced, sum_answer, product_answer, quotient_answer}
 use Rattle.dz_jet.specs.declared.faults.JetFault.{JetFault}
 use Rattle.dz_jet.specs.Jets.{multiplied, term_value, value_from, value_answer}

@@ -9,8 +9,8 @@ use Rattle.std.proofs.lemmas.List.Sorted.{Contains-permutation, IsPermutation-sy
 use Rattle.dz_int.specs.Fractions.{Fraction}
 use Rattle.dz_rank.specs.Rankings.{RankingValue, ranking_cmp}
 use Rattle.dz_rank.specs.declared.symbols.Symbol.{Symbol}
-use Rattle.dz_terms.specs.Ranked.{symbols_under}
-use Rattle.dz_terms.proofs.SymbolLaws.{ranking_order}
+use Rattle.dz_monomials.specs.Ranked.{symbols_under}
+use Rattle.dz_monomials.proofs.SymbolLaws.{ranking_order}
 use Rattle.dz_diff.specs.Tests.{same_symbol}
 use Rattle.dz_jet.specs.Jets.{Values, given_to}
 use Rattle.dz_jet.specs.Tables.{AreSorted, HaveOneValue}

@@ -1,10 +1,10 @@
 -- The answers of the calls on fractions are those of the definitions.
 use Rattle.std.proofs.Common.{◌≡◌, ◌⊎◌, inl, inr, ◌<◌, ◌≤◌, ◌*◌, ◌∙◌, ℕ, nat_le, Bool, true, false, ◌&&◌, cond, pos, ◌+ℤ◌, ◌*ℤ◌, unsigned_abs, Option, Some, None, refl, ap, ap₂, arith}
 use Rattle.std.proofs.lemmas.Bool.{le-leb, leb-true}
-use Rattle.dz_int.specs.Euclid.{gcd}
+use Rattle.dz_algebra.specs.Norm.{gcd}
 use Rattle.dz_int.specs.Fractions.{Fraction, IsReduced, IsSum, IsProduct, sum_majorant, common_denominator}
 use Rattle.dz_int.specs.Numbers.{greatest}
-use Rattle.dz_int.proofs.Coprime.{gcd_is}
+use Rattle.dz_algebra.proofs.Divisors.{gcd_is}
 use Rattle.dz_int.proofs.Unique.{same_fraction}
 use Rattle.dz_jet.specs.Fractions.{fraction_sum, fraction_product, sum_answer, product_answer}
 use Rattle.dz_jet.proofs.FractionLaws.{Is, itself, sum_is, product_is}

@@ -7,13 +7,13 @@ use Rattle.std.specs.Int.{IsGcd, is_negative}
 use Rattle.dz_algebra.specs.Domain.{DomainLaws, copies}
 use Rattle.dz_algebra.specs.Ring.{Ring, product_swaps, sum_times, negative_product, zero_product}
 use Rattle.dz_algebra.specs.Whole.{whole_is_zero, whole_ring, no_divisors}
-use Rattle.dz_int.specs.Euclid.{gcd}
+use Rattle.dz_algebra.specs.Norm.{gcd}
 use Rattle.dz_int.specs.Fractions.{Fraction, IsReduced, HasValue}
-use Rattle.dz_int.proofs.Coprime.{gcd_is}
+use Rattle.dz_algebra.proofs.Divisors.{gcd_is}
 use Rattle.dz_int.proofs.Reduced.{coprime_gcd, quotients_coprime, quotient_of_denominator, reduced_value}
 use Rattle.dz_int.proofs.Signs.{by_sign, unsigned_abs_signed, neg_by_sign, cancel_pos, factors_swap}
 use Rattle.dz_int.proofs.Unique.{same_fraction}
-use Rattle.dz_diff.proofs.Answers.{both}
+use Rattle.dz_algebra.proofs.Outcomes.{both}
 use Rattle.dz_jet.specs.Fractions.{reduced, whole, fraction_sum, fraction_product, fraction_negative, is_reduced, fraction_arithmetic, fraction_operations}
 
 -- a reduced fraction with the value n over d

@@ -5,22 +5,25 @@ use Rattle.dz_int.specs.Fractions.{Fraction}
 use Rattle.dz_rank.specs.Rankings.{RankingValue, ranking_cmp}
 use Rattle.dz_rank.specs.Symbols.{BelongsTo, HasFourExponents, is_derivative}
 use Rattle.dz_rank.specs.declared.symbols.Symbol.{Symbol}
-use Rattle.dz_terms.specs.Ranked.{symbols_under}
-use Rattle.dz_terms.proofs.SymbolLaws.{ranking_order}
-use Rattle.dz_diff.specs.Lists.{AllOf}
-use Rattle.dz_diff.specs.Outcome.{◌>>=◌}
+use Rattle.dz_monomials.specs.Ranked.{symbols_under}
+use Rattle.dz_monomials.proofs.SymbolLaws.{ranking_order}
+use Rattle.dz_monomials.specs.Lists.{AllOf}
+use Rattle.dz_algebra.specs.Outcome.{◌>>=◌}
 use Rattle.dz_diff.specs.State.{State}
 use Rattle.dz_step.proofs.Searches.{drop_here}
 use Rattle.dz_jet.specs.declared.faults.JetFault.{JetFault}
 use Rattle.dz_jet.specs.declared.faults.JetFault.TheVariants as faults
 use Rattle.dz_syntax.specs.Systems.{AreDistinct}
-use Rattle.dz_jet.specs.Jets.{Values, derivatives_to, given_to, is_among, is_needed, test_given, unless}
+use Rattle.dz_jet.specs.Jets.{Values, given_to, is_among, is_needed, test_given, unless}
+use Rattle.dz_parametric.specs.Orders.{derivatives_to}
 use Rattle.dz_jet.specs.Stops.{IsFault}
-use Rattle.dz_jet.specs.Tables.{HaveOneValue, IsRising, first_missing, first_not_free}
+use Rattle.dz_jet.specs.Tables.{HaveOneValue, first_missing, first_not_free}
+use Rattle.dz_parametric.specs.Orders.{IsRising}
 use Rattle.dz_jet.proofs.FoldSteps.{any_default}
-use Rattle.dz_jet.proofs.JetSymbols.{IsListed, all_derivatives, all_listed, jet_symbols, rises}
+use Rattle.dz_jet.proofs.JetSymbols.{all_listed, jet_symbols}
+use Rattle.dz_parametric.proofs.OrderLists.{IsListed, all_derivatives, rises}
 use Rattle.dz_jet.proofs.PairSteps.{four}
-use Rattle.dz_jet.proofs.SortedSymbols.{ordered_rises}
+use Rattle.dz_parametric.proofs.SortedSymbols.{ordered_rises}
 
 -- distinct symbols have one value each
 pub distinct_one : (known : Values) → AreDistinct known → HaveOneValue known

@@ -11,16 +11,17 @@ use Rattle.dz_rank.specs.Rankings.{RankingValue, ranking_cmp}
 use Rattle.dz_rank.specs.Symbols.{is_derivative}
 use Rattle.dz_rank.specs.declared.symbols.Symbol.{Symbol}
 use Rattle.dz_rank.specs.declared.symbols.Symbol.TheVariants.{Independent}
-use Rattle.dz_terms.specs.Ranked.{symbols_under}
-use Rattle.dz_diff.specs.Lists.{AllOf}
+use Rattle.dz_monomials.specs.Ranked.{symbols_under}
+use Rattle.dz_monomials.specs.Lists.{AllOf}
 use Rattle.dz_diff.specs.State.{State}
 use Rattle.dz_diff.specs.Tests.{Polynomials, same_symbol}
 use Rattle.dz_jet.specs.Fractions.{whole}
 use Rattle.dz_jet.specs.Jets.{Values, led_by, leading_to, given_to, independents_of, is_among, is_needed, value_in}
-use Rattle.dz_jet.specs.Tables.{IsRising, IsTable, first_not_free, keys}
+use Rattle.dz_jet.specs.Tables.{IsTable, first_not_free, keys}
+use Rattle.dz_parametric.specs.Orders.{IsRising}
 use Rattle.dz_jet.proofs.FilteredLists.{among_in, in_among, none_fails}
 use Rattle.dz_jet.proofs.JetLists.{given_key, itself_same, same_is}
-use Rattle.dz_jet.proofs.JetSymbols.{In, all_map, all_range}
+use Rattle.dz_parametric.proofs.Members.{In, all_map, all_range}
 
 -- ---- lists that give each symbol the value of a function
 keys_mapped : (f : Symbol → Fraction) (ss : List Symbol) → keys (map (λ s. (s, f s)) ss) ≡ ss

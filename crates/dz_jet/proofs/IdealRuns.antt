@@ -14,15 +14,15 @@ use Rattle.dz_rank.specs.Symbols.{derivative_by, is_derivative, BelongsTo, IsOpe
 use Rattle.dz_rank.specs.declared.symbols.Operator.{Operator}
 use Rattle.dz_rank.specs.declared.symbols.Symbol.{Symbol}
 use Rattle.dz_rank.specs.declared.symbols.Symbol.TheVariants.{Independent, Derivative}
-use Rattle.dz_terms.specs.Ranked.{symbols_under}
-use Rattle.dz_terms.specs.Terms.{times_power}
-use Rattle.dz_terms.proofs.SymbolLaws.{ranking_order}
-use Rattle.dz_diff.specs.Lists.{AllOf}
-use Rattle.dz_diff.specs.Outcome.{numbered}
+use Rattle.dz_monomials.specs.Ranked.{symbols_under}
+use Rattle.dz_monomials.specs.Terms.{times_power}
+use Rattle.dz_monomials.proofs.SymbolLaws.{ranking_order}
+use Rattle.dz_monomials.specs.Lists.{AllOf}
+use Rattle.dz_algebra.specs.Outcome.{numbered}
 use Rattle.dz_diff.specs.Over.{IsOver}
 use Rattle.dz_diff.specs.Operations.{operator_answer, setting_of}
 use Rattle.dz_diff.specs.State.{State, at_place}
-use Rattle.dz_diff.proofs.Answers.{bind_ok, told_ok, both}
+use Rattle.dz_algebra.proofs.Outcomes.{bind_ok, told_ok, both}
 use Rattle.dz_diff.proofs.Goodness.{Good, InRange, good_terms, good_product, good_operator, good_coefficient, goods_divided, goods_times_power}
 use Rattle.dz_diff.proofs.Overs.{good_over}
 use Rattle.dz_step.specs.declared.Which.{Which}

@@ -14,8 +14,8 @@ use Rattle.dz_algebra.proofs.Products.{monomials_pairs}
 use Rattle.dz_algebra.proofs.Totals.{total, total_collect, total_pairs, same_by_totals}
 use Rattle.dz_rank.specs.Rankings.{RankingValue, ranking_cmp}
 use Rattle.dz_rank.specs.declared.symbols.Symbol.{Symbol}
-use Rattle.dz_terms.specs.Ranked.{symbols_under}
-use Rattle.dz_terms.proofs.SymbolLaws.{ranking_order}
+use Rattle.dz_monomials.specs.Ranked.{symbols_under}
+use Rattle.dz_monomials.proofs.SymbolLaws.{ranking_order}
 use Rattle.dz_jet.proofs.Ideals.{IsPrimeIdeal, Along, along_multiple, along_negative, along_other, along_prime}
 use Rattle.dz_jet.proofs.Operators.{Poly, derivation, is_derivation}
 

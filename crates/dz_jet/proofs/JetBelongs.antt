@@ -10,14 +10,14 @@ use Rattle.dz_rank.specs.declared.rankings.Signature.{Signature}
 use Rattle.dz_rank.specs.declared.symbols.Symbol.{Symbol}
 use Rattle.dz_rank.specs.Rankings.{RankingValue}
 use Rattle.dz_rank.specs.Symbols.{BelongsTo, is_derivative}
-use Rattle.dz_terms.specs.Ranked.{symbols_under}
-use Rattle.dz_diff.specs.Lists.{AllOf}
+use Rattle.dz_monomials.specs.Ranked.{symbols_under}
+use Rattle.dz_monomials.specs.Lists.{AllOf}
 use Rattle.dz_diff.specs.Operations.{operator_answer, setting_of}
-use Rattle.dz_diff.specs.Outcome.{◌>>=◌, given, needs, told_as}
+use Rattle.dz_algebra.specs.Outcome.{◌>>=◌, given, needs, told_as}
 use Rattle.dz_diff.specs.Over.{IsOver}
 use Rattle.dz_diff.specs.State.{State}
 use Rattle.dz_diff.specs.Tests.{Polynomials}
-use Rattle.dz_diff.proofs.Answers.{bind_ok, ok_same}
+use Rattle.dz_algebra.proofs.Outcomes.{bind_ok, ok_same}
 use Rattle.dz_jet.specs.declared.faults.At.TheVariants as ats
 use Rattle.dz_jet.specs.declared.faults.JetFault.{JetFault}
 use Rattle.dz_jet.specs.declared.faults.JetFault.TheVariants as faults
@@ -25,12 +25,14 @@ use Rattle.dz_jet.specs.declared.faults.Part.{Part}
 use Rattle.dz_jet.specs.declared.faults.Part.TheVariants as parts
 use Rattle.dz_jet.specs.FaultSymbols.{IsFaultOver}
 use Rattle.dz_jet.specs.Fractions.{fraction_negative, is_zero_fraction, quotient_answer}
-use Rattle.dz_jet.specs.Jets.{JetValue, Leading, Values, derivatives_to, fixed_value, independents_of, is_among, is_given, is_needed, jet_answer, jet_order, leading_to, refused_at, separant_refused, test_all_multipliers, test_equations, test_given, test_inequations, test_multipliers, test_part, unless, value_answer, value_in, with_value, with_values}
+use Rattle.dz_jet.specs.Jets.{JetValue, Leading, Values, fixed_value, independents_of, is_among, is_given, is_needed, jet_answer, jet_order, leading_to, refused_at, separant_refused, test_all_multipliers, test_equations, test_given, test_inequations, test_multipliers, test_part, unless, value_answer, value_in, with_value, with_values}
+use Rattle.dz_parametric.specs.Orders.{derivatives_to}
 use Rattle.dz_jet.specs.Stops.{IsFault}
 use Rattle.dz_jet.specs.Writable.{IsWritable}
 use Rattle.dz_jet.proofs.FilteredLists.{found_is}
 use Rattle.dz_jet.proofs.GivenAnswers.{derivatives_proper}
-use Rattle.dz_jet.proofs.JetSymbols.{IsListed, all_listed, jet_symbols}
+use Rattle.dz_jet.proofs.JetSymbols.{all_listed, jet_symbols}
+use Rattle.dz_parametric.proofs.OrderLists.{IsListed}
 use Rattle.dz_jet.proofs.Reachings.{leader_belongs}
 
 -- ---- lists

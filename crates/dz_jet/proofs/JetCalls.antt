@@ -8,7 +8,7 @@ use Rattle.dz_rank.specs.Rankings.{RankingValue}
 use Rattle.dz_rank.specs.Symbols.{BelongsTo}
 use Rattle.dz_rank.specs.declared.rankings.Signature.{Signature}
 use Rattle.dz_rank.specs.declared.symbols.Symbol.{Symbol}
-use Rattle.dz_terms.specs.Ranked.{symbols_under}
+use Rattle.dz_monomials.specs.Ranked.{symbols_under}
 use Rattle.dz_diff.specs.Operations.{setting_of}
 use Rattle.dz_diff.specs.State.{State}
 use Rattle.dz_diff.specs.States.{StandsIn, StateValue, polynomials, state_in}
@@ -16,7 +16,8 @@ use Rattle.dz_diff.specs.Tests.{Polynomials}
 use Rattle.dz_diff.proofs.KeptStates.{kept_polynomials, kept_state}
 use Rattle.dz_jet.specs.declared.faults.JetFault.{JetFault}
 use Rattle.dz_jet.specs.Fixing.{AreSeparants}
-use Rattle.dz_jet.specs.Jets.{Values, derivatives_to, independents_of, is_needed, jet_answer, jet_order, test_all_multipliers, test_equations, test_given, test_inequations, value_in, with_values}
+use Rattle.dz_jet.specs.Jets.{Values, independents_of, is_needed, jet_answer, jet_order, test_all_multipliers, test_equations, test_given, test_inequations, value_in, with_values}
+use Rattle.dz_parametric.specs.Orders.{derivatives_to}
 use Rattle.dz_jet.specs.Stops.{IsFault}
 use Rattle.dz_jet.specs.Tables.{IsBegun, IsTable}
 use Rattle.dz_jet.proofs.GivenAnswers.{derivatives_belong, derivatives_proper, derivatives_rise}

@@ -6,9 +6,9 @@ use Rattle.dz_int.specs.Fractions.{Fraction}
 use Rattle.dz_rank.specs.Rankings.{RankingValue, IsOrderly}
 use Rattle.dz_rank.specs.Symbols.{total_order}
 use Rattle.dz_rank.specs.declared.symbols.Symbol.{Symbol}
-use Rattle.dz_terms.specs.Ranked.{symbols_under}
+use Rattle.dz_monomials.specs.Ranked.{symbols_under}
 use Rattle.dz_diff.specs.State.{State}
-use Rattle.dz_diff.proofs.Answers.{bind_ok}
+use Rattle.dz_algebra.proofs.Outcomes.{bind_ok}
 use Rattle.dz_move.specs.Lines.{Evidence}
 use Rattle.dz_jet.specs.Clashes.{IsChain, AgreesAt, IsDerivativeIn}
 use Rattle.dz_jet.specs.Fractions.{whole, fraction_operations}
@@ -17,7 +17,8 @@ use Rattle.dz_jet.specs.Jets.{JetValue, Values, given_to, value_in, jet_order, i
 use Rattle.dz_jet.specs.Laws.{AreReduced, JetLaws}
 use Rattle.dz_jet.proofs.JetLists.{keys, value_kept, value_behind, key_or_none, key_given}
 use Rattle.dz_jet.proofs.JetRuns.{all_sound, nothing_done, end_agrees}
-use Rattle.dz_jet.proofs.JetSymbols.{In, jet_symbols, in_jet}
+use Rattle.dz_jet.proofs.JetSymbols.{jet_symbols, in_jet}
+use Rattle.dz_parametric.proofs.Members.{In}
 use Rattle.dz_jet.proofs.FilteredLists.{among_in, in_filter}
 use Rattle.dz_jet.proofs.JetTests.{equations_pass, all_multipliers_pass, all_needed}
 use Rattle.dz_jet.proofs.Reachings.{reached_belongs, reached_derivative}

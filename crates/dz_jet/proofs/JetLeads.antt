@@ -9,8 +9,8 @@ use Rattle.dz_rank.specs.declared.symbols.Operator.{Operator}
 use Rattle.dz_rank.specs.declared.symbols.Symbol.{Symbol}
 use Rattle.dz_rank.specs.declared.symbols.Symbol.TheVariants.{Independent, Derivative}
 use Rattle.dz_rank.proofs.Belonging.{quotient_is_operator}
-use Rattle.dz_terms.specs.Ranked.{symbols_under}
-use Rattle.dz_diff.specs.Lists.{AllOf}
+use Rattle.dz_monomials.specs.Ranked.{symbols_under}
+use Rattle.dz_monomials.specs.Lists.{AllOf}
 use Rattle.dz_diff.specs.Over.{IsOver}
 use Rattle.dz_diff.specs.Operators.{is_proper, quotient}
 use Rattle.dz_diff.specs.State.{State, at_place}
@@ -116,7 +116,7 @@ module _ (r : RankingValue) where
           reaches = k.0;
         }
 
-    needed_none : (w : Symbol) → is_needed (symbols_under r) s w ≡ true → leading_to (symbols_under r) w 1 s.equations ≡ None
+    pub needed_none : (w : Symbol) → is_needed (symbols_under r) s w ≡ true → leading_to (symbols_under r) w 1 s.equations ≡ None
     needed_none w h = by_list (leading_to (symbols_under r) w 1 s.equations) h
       where
         by_list : (o : Option Leading) → is_none o ≡ true → o ≡ None

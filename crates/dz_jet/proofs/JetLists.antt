@@ -4,15 +4,15 @@ use Rattle.std.proofs.lemmas.Cmp.{tied_itself}
 use Rattle.dz_int.specs.Fractions.{Fraction}
 use Rattle.dz_rank.specs.Rankings.{RankingValue, ranking_cmp}
 use Rattle.dz_rank.specs.declared.symbols.Symbol.{Symbol}
-use Rattle.dz_terms.specs.Ranked.{symbols_under}
-use Rattle.dz_terms.proofs.SymbolLaws.{ranking_order}
-use Rattle.dz_diff.specs.Lists.{AllOf}
+use Rattle.dz_monomials.specs.Ranked.{symbols_under}
+use Rattle.dz_monomials.proofs.SymbolLaws.{ranking_order}
+use Rattle.dz_monomials.specs.Lists.{AllOf}
 use Rattle.dz_diff.specs.Tests.{is_equal, same_symbol}
 use Rattle.dz_diff.proofs.SameTests.{equal_is}
 use Rattle.dz_jet.specs.Fractions.{whole, is_reduced}
 use Rattle.dz_jet.specs.Jets.{Values, given_to, value_in, is_given}
 use Rattle.dz_jet.proofs.FractionLaws.{passes_lowest, whole_is}
-use Rattle.dz_jet.proofs.JetSymbols.{In}
+use Rattle.dz_parametric.proofs.Members.{In}
 
 module _ (r : RankingValue) where
   pub itself_same : (s : Symbol) → same_symbol (symbols_under r) s s ≡ true

@@ -19,15 +19,15 @@ use Rattle.dz_rank.specs.Symbols.{derivative_by, is_derivative, BelongsTo}
 use Rattle.dz_rank.specs.declared.symbols.Operator.{Operator}
 use Rattle.dz_rank.specs.declared.symbols.Symbol.{Symbol}
 use Rattle.dz_rank.specs.declared.symbols.Symbol.TheVariants.{Independent, Derivative}
-use Rattle.dz_terms.specs.Ranked.{symbol_rate, symbols_under}
-use Rattle.dz_terms.proofs.SymbolLaws.{ranking_order}
-use Rattle.dz_diff.specs.Lists.{AllOf}
+use Rattle.dz_monomials.specs.Ranked.{symbol_rate, symbols_under}
+use Rattle.dz_monomials.proofs.SymbolLaws.{ranking_order}
+use Rattle.dz_monomials.specs.Lists.{AllOf}
 use Rattle.dz_diff.specs.Over.{IsOver}
 use Rattle.dz_diff.specs.Operations.{Setting, iterated_answer, derivations_answer, operator_answer, setting_of}
 use Rattle.dz_diff.specs.Operators.{is_proper, quotient}
 use Rattle.dz_diff.specs.State.{State, at_place}
 use Rattle.dz_diff.specs.Tests.{Polynomials}
-use Rattle.dz_diff.proofs.Answers.{bind_ok}
+use Rattle.dz_algebra.proofs.Outcomes.{bind_ok}
 use Rattle.dz_diff.proofs.LeaderBounds.{under_leader}
 use Rattle.dz_diff.proofs.LeaderDerivations.{IsUnder}
 use Rattle.dz_diff.proofs.OperatorLeaders.{derivative_grows}
@@ -140,7 +140,7 @@ module _ (r : RankingValue) where
 
 -- ---- a value is needed where no proper operator leads
 module _ (g : Setting) (w : Symbol) where
-  none_leads : (j : ℕ) (es : Polynomials) → ((b : ℕ) (q : Polynomial Symbol) (l : Symbol) (t : Operator) → at_place (suc b) es ≡ Some q → leader g.symbols q ≡ Some l → quotient w l ≡ Some t → is_proper t ≡ true → ⊥) → leading_to g.symbols w j es ≡ None
+  pub none_leads : (j : ℕ) (es : Polynomials) → ((b : ℕ) (q : Polynomial Symbol) (l : Symbol) (t : Operator) → at_place (suc b) es ≡ Some q → leader g.symbols q ≡ Some l → quotient w l ≡ Some t → is_proper t ≡ true → ⊥) → leading_to g.symbols w j es ≡ None
   none_leads j [] f = refl
   none_leads j (p ∷ es) f = ap (led_by j p (leader g.symbols p) w) (none_leads (suc j) es (λ b q l t e. f (suc b) q l t e)) ∙ by_leader (leader g.symbols p) refl
     where
@@ -156,7 +156,7 @@ module _ (g : Setting) (w : Symbol) where
           by_quotient None h = refl
           by_quotient (Some t) h = by_proper t (is_proper t) refl h
 
-  needs_value : (o : Option Leading) → o ≡ None → is_none o ≡ true
+  pub needs_value : (o : Option Leading) → o ≡ None → is_none o ≡ true
   needs_value None e = refl
   needs_value (Some x) e = cc
 

@@ -8,12 +8,12 @@ use Rattle.dz_int.specs.Fractions.{Fraction}
 use Rattle.dz_rank.specs.Rankings.{RankingValue, ranking_cmp, IsOrderly}
 use Rattle.dz_rank.specs.Symbols.{BelongsTo, total_order}
 use Rattle.dz_rank.specs.declared.symbols.Symbol.{Symbol}
-use Rattle.dz_terms.specs.Ranked.{symbols_under}
-use Rattle.dz_diff.specs.Lists.{AllOf}
+use Rattle.dz_monomials.specs.Ranked.{symbols_under}
+use Rattle.dz_monomials.specs.Lists.{AllOf}
 use Rattle.dz_diff.specs.Operations.{setting_of}
 use Rattle.dz_diff.specs.State.{State, at_place}
 use Rattle.dz_diff.specs.Tests.{Polynomials}
-use Rattle.dz_diff.proofs.Answers.{bind_ok, ok_same, both}
+use Rattle.dz_algebra.proofs.Outcomes.{bind_ok, ok_same, both}
 use Rattle.dz_diff.proofs.Places.{all-append, some_right}
 use Rattle.dz_move.specs.Lines.{Evidence}
 use Rattle.dz_tree.specs.Chain.{passes, has_leaders}
@@ -28,7 +28,9 @@ use Rattle.dz_jet.proofs.JetLeads.{found_leads, needed_not_reached}
 use Rattle.dz_jet.proofs.JetLists.{AreReduced, value_kept, value_behind, key_or_none, given_is_key, key_is_given, value_reduced}
 use Rattle.dz_jet.proofs.JetParts.{in_more, initial_in, separant_in, equation_needed}
 use Rattle.dz_jet.proofs.JetSteps.{Sound, lesser_done, up_to_done, stays_fixed, grows, fixes}
-use Rattle.dz_jet.proofs.JetSymbols.{In, of_member, IsListed, jet_symbols, all_listed}
+use Rattle.dz_jet.proofs.JetSymbols.{jet_symbols, all_listed}
+use Rattle.dz_parametric.proofs.Members.{In, of_member}
+use Rattle.dz_parametric.proofs.OrderLists.{IsListed}
 use Rattle.dz_jet.proofs.JetTests.{AreNonzero}
 use Rattle.dz_jet.proofs.Linear.{value_agrees}
 use Rattle.dz_jet.proofs.Operators.{operator_is}

@@ -12,16 +12,16 @@ use Rattle.dz_rank.specs.Rankings.{RankingValue, ranking_cmp, IsOrderly}
 use Rattle.dz_rank.specs.Symbols.{BelongsTo, is_derivative, total_order}
 use Rattle.dz_rank.specs.declared.symbols.Symbol.{Symbol}
 use Rattle.dz_rank.specs.declared.symbols.Symbol.TheVariants.{Independent, Derivative}
-use Rattle.dz_terms.specs.Ranked.{symbols_under}
-use Rattle.dz_terms.proofs.SymbolLaws.{ranking_order}
+use Rattle.dz_monomials.specs.Ranked.{symbols_under}
+use Rattle.dz_monomials.proofs.SymbolLaws.{ranking_order}
 use Rattle.dz_diff.specs.Laws.{IsLinearIn}
-use Rattle.dz_diff.specs.Lists.{AllOf}
-use Rattle.dz_diff.specs.Outcome.{given, told_as}
+use Rattle.dz_monomials.specs.Lists.{AllOf}
+use Rattle.dz_algebra.specs.Outcome.{given, told_as}
 use Rattle.dz_diff.specs.Over.{IsOver}
 use Rattle.dz_diff.specs.Operations.{operator_answer, setting_of}
 use Rattle.dz_diff.specs.Operators.{is_proper}
 use Rattle.dz_diff.specs.State.{State, at_place}
-use Rattle.dz_diff.proofs.Answers.{bind_ok, told_ok}
+use Rattle.dz_algebra.proofs.Outcomes.{bind_ok, told_ok}
 use Rattle.dz_diff.proofs.OperatorLeaders.{derivative_grows}
 use Rattle.dz_diff.proofs.Places.{all-append, some_parts, some_left, some_right}
 use Rattle.dz_diff.proofs.ProperDerivatives.{proper_derivative_linear}
@@ -37,7 +37,9 @@ use Rattle.dz_jet.proofs.FractionLaws.{fraction_laws, is_lowest, zero_is}
 use Rattle.dz_jet.proofs.JetLeads.{Leads, reaching}
 use Rattle.dz_jet.proofs.JetLists.{keys, AreReduced, value_kept, value_last, key_or_none, value_reduced}
 use Rattle.dz_jet.proofs.JetParts.{in_both, in_more, operator_in, separant_in, under_top, equation_needed}
-use Rattle.dz_jet.proofs.JetSymbols.{In, of_member, IsOrdered, IsListed, jet_symbols, all_listed, in_jet, jet_ordered}
+use Rattle.dz_jet.proofs.JetSymbols.{jet_symbols, all_listed, in_jet, jet_ordered}
+use Rattle.dz_parametric.proofs.Members.{In, of_member}
+use Rattle.dz_parametric.proofs.OrderLists.{IsOrdered, IsListed}
 use Rattle.dz_jet.proofs.Linear.{value_agrees, linear_value, is_linear, in_coefficient}
 use Rattle.dz_jet.proofs.Reachings.{equation_over, top_derivative, reached_derivative}
 use Rattle.dz_jet.proofs.Segments.{no_greater}

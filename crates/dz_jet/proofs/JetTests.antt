@@ -13,11 +13,11 @@ use Rattle.dz_algebra.proofs.Operations.{operation_is}
 use Rattle.dz_int.specs.Fractions.{Fraction}
 use Rattle.dz_rank.specs.Rankings.{RankingValue, ranking_cmp}
 use Rattle.dz_rank.specs.declared.symbols.Symbol.{Symbol}
-use Rattle.dz_terms.specs.Ranked.{symbols_under}
-use Rattle.dz_diff.specs.Outcome.{told_as}
+use Rattle.dz_monomials.specs.Ranked.{symbols_under}
+use Rattle.dz_algebra.specs.Outcome.{told_as}
 use Rattle.dz_diff.specs.State.{at_place}
 use Rattle.dz_diff.specs.Tests.{Polynomials}
-use Rattle.dz_diff.proofs.Answers.{bind_ok, then_ok, told_ok}
+use Rattle.dz_algebra.proofs.Outcomes.{bind_ok, then_ok, told_ok}
 use Rattle.dz_jet.specs.Fractions.{whole, fraction_arithmetic, is_zero_fraction}
 use Rattle.dz_jet.specs.declared.faults.At.TheVariants as ats
 use Rattle.dz_jet.specs.declared.faults.JetFault.{JetFault}
@@ -29,7 +29,7 @@ use Rattle.dz_jet.proofs.FilteredLists.{none_fails}
 use Rattle.dz_jet.proofs.FoldValues.{Reduced, fractions, value_is}
 use Rattle.dz_jet.proofs.FractionLaws.{fraction_laws, is_lowest, zero_is, zero_tested}
 use Rattle.dz_jet.proofs.JetLists.{AreReduced, value_reduced, keys}
-use Rattle.dz_jet.proofs.JetSymbols.{In}
+use Rattle.dz_parametric.proofs.Members.{In}
 
 module _ (r : RankingValue) where
   -- ---- where they pass

@@ -8,16 +8,18 @@ use Rattle.dz_rank.specs.Rankings.{RankingValue, ranking_cmp}
 use Rattle.dz_rank.specs.Symbols.{is_derivative}
 use Rattle.dz_rank.specs.declared.symbols.Symbol.{Symbol}
 use Rattle.dz_rank.specs.declared.symbols.Symbol.TheVariants.{Independent}
-use Rattle.dz_terms.specs.Ranked.{symbols_under}
-use Rattle.dz_diff.specs.Lists.{AllOf}
+use Rattle.dz_monomials.specs.Ranked.{symbols_under}
+use Rattle.dz_monomials.specs.Lists.{AllOf}
 use Rattle.dz_diff.specs.Operations.{setting_of}
-use Rattle.dz_diff.specs.Outcome.{◌>>=◌}
+use Rattle.dz_algebra.specs.Outcome.{◌>>=◌}
 use Rattle.dz_diff.specs.State.{State}
 use Rattle.dz_jet.specs.declared.faults.JetFault.{JetFault}
 use Rattle.dz_jet.specs.Fractions.{whole}
-use Rattle.dz_jet.specs.Jets.{Values, derivatives_to, independents_of, is_needed, jet_answer, jet_order, test_all_multipliers, test_equations, test_given, test_inequations, value_in, with_value, with_values}
+use Rattle.dz_jet.specs.Jets.{Values, independents_of, is_needed, jet_answer, jet_order, test_all_multipliers, test_equations, test_given, test_inequations, value_in, with_value, with_values}
+use Rattle.dz_parametric.specs.Orders.{derivatives_to}
 use Rattle.dz_jet.specs.Stops.{IsFault}
-use Rattle.dz_jet.specs.Tables.{IsBegun, IsRising, IsTable, keys}
+use Rattle.dz_jet.specs.Tables.{IsBegun, IsTable, keys}
+use Rattle.dz_parametric.specs.Orders.{IsRising}
 use Rattle.dz_jet.proofs.GivenTables.{independent_not_led}
 use Rattle.dz_jet.proofs.TableLists.{independent_given, independents_length, slice_rest, drop_front}
 

@@ -5,7 +5,7 @@ use Rattle.dz_algebra.specs.Size.{Refusal, derivation_answer}
 use Rattle.dz_algebra.specs.Symbols.{Symbols}
 use Rattle.dz_rank.specs.declared.symbols.Operator.{Operator}
 use Rattle.dz_rank.specs.declared.symbols.Symbol.{Symbol}
-use Rattle.dz_diff.specs.Outcome.{◌>>=◌}
+use Rattle.dz_algebra.specs.Outcome.{◌>>=◌}
 use Rattle.dz_diff.specs.Operations.{Setting, iterated_answer, derivations_answer, operator_answer}
 use Rattle.dz_jet.specs.Making.{IsLast, lowered}
 

@@ -27,11 +27,9 @@ pub mod FoldSteps
 pub mod Found
 pub mod TableLists
 pub mod FilteredLists
-pub mod SortedSymbols
 pub mod LastDerivations
 pub mod FirstLeading
 pub mod OrderFolds
-pub mod Listings
 pub mod Needed
 pub mod GivenTables
 pub mod PointSteps
@@ -43,3 +41,5 @@ pub mod JetCalls
 pub mod FixingSteps
 pub mod OrderlyTests
 pub mod JetBelongs
+pub mod GivenFaults
+pub mod InitialData

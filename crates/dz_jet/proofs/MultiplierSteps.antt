@@ -9,8 +9,8 @@ use Rattle.dz_poly.specs.Books.{BookValue, Gives, IsKept, Lives, Means, polynomi
 use Rattle.dz_poly.proofs.Books.{kept_polynomial, means_polynomial}
 use Rattle.dz_rank.specs.Rankings.{RankingValue, ranking_cmp}
 use Rattle.dz_rank.specs.declared.symbols.Symbol.{Symbol}
-use Rattle.dz_terms.specs.Ranked.{symbols_under}
-use Rattle.dz_terms.specs.declared.PolyStop.{PolyStop}
+use Rattle.dz_monomials.specs.Ranked.{symbols_under}
+use Rattle.dz_monomials.specs.declared.PolyStop.{PolyStop}
 use Rattle.dz_jet.specs.declared.faults.JetFault.{JetFault}
 use Rattle.dz_jet.specs.declared.faults.Part.TheVariants as parts
 use Rattle.dz_jet.specs.Jets.{Values, test_multipliers, test_part, value_in}

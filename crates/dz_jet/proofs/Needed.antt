@@ -4,10 +4,12 @@ use Rattle.std.proofs.Common.{◌≡◌, ◌<◌, ◌≤◌, ◌∙◌, ℕ, Boo
 use Rattle.dz_rank.specs.Rankings.{RankingValue}
 use Rattle.dz_rank.specs.Symbols.{BelongsTo, total_order}
 use Rattle.dz_rank.specs.declared.symbols.Symbol.{Symbol}
-use Rattle.dz_terms.specs.Ranked.{symbols_under}
+use Rattle.dz_monomials.specs.Ranked.{symbols_under}
 use Rattle.dz_diff.specs.State.{State}
 use Rattle.dz_jet.specs.Jets.{is_among, is_needed}
-use Rattle.dz_jet.proofs.JetSymbols.{In, IsListed, all_listed, in_jet, jet_symbols, of_member}
+use Rattle.dz_jet.proofs.JetSymbols.{all_listed, in_jet, jet_symbols}
+use Rattle.dz_parametric.proofs.Members.{In, of_member}
+use Rattle.dz_parametric.proofs.OrderLists.{IsListed}
 use Rattle.dz_jet.proofs.FilteredLists.{among_in, in_among, in_filter, in_filtered, filtered_passes}
 
 module _ (r : RankingValue) (few : r.signature.independents ≤ 4) (st : State) (m : ℕ) where

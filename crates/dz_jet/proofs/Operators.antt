@@ -12,10 +12,10 @@ use Rattle.dz_rank.specs.Rankings.{RankingValue, ranking_cmp}
 use Rattle.dz_rank.specs.Symbols.{raised, IsOperatorOf}
 use Rattle.dz_rank.specs.declared.symbols.Operator.{Operator}
 use Rattle.dz_rank.specs.declared.symbols.Symbol.{Symbol}
-use Rattle.dz_terms.specs.Ranked.{symbol_rate, symbols_under}
-use Rattle.dz_terms.proofs.SymbolLaws.{ranking_order, rates_commute}
+use Rattle.dz_monomials.specs.Ranked.{symbol_rate, symbols_under}
+use Rattle.dz_monomials.proofs.SymbolLaws.{ranking_order, rates_commute}
 use Rattle.dz_diff.specs.Operations.{iterated_answer, derivations_answer, operator_answer, setting_of}
-use Rattle.dz_diff.proofs.Answers.{bind_ok}
+use Rattle.dz_algebra.proofs.Outcomes.{bind_ok}
 use Rattle.dz_jet.specs.Derivatives.{iterated_derivative, derivative_from, derivative_of}
 
 module _ (r : RankingValue) where

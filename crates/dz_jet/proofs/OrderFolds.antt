@@ -8,7 +8,7 @@ use Rattle.dz_algebra.specs.Size.{has_high_order}
 use Rattle.dz_algebra.specs.Symbols.{Symbols}
 use Rattle.dz_poly.specs.Books.{BookValue, IsBook, polynomial}
 use Rattle.dz_rank.specs.declared.symbols.Symbol.{Symbol}
-use Rattle.dz_terms.specs.Ranked.{symbols_under}
+use Rattle.dz_monomials.specs.Ranked.{symbols_under}
 use Rattle.dz_diff.specs.States.{LiveAll, polynomials}
 use Rattle.dz_move.proofs.RootStates.{or_none}
 use Rattle.dz_step.proofs.DivisorTables.{polynomial_here, polynomials_length}

@@ -13,14 +13,14 @@ use Rattle.dz_rank.specs.declared.symbols.Symbol.{Symbol}
 use Rattle.dz_rank.specs.declared.symbols.Symbol.TheVariants.{Independent, Derivative}
 use Rattle.dz_rank.proofs.Belonging.{least_common_belongs, quotient_is_operator}
 use Rattle.dz_rank.proofs.CommonDerivatives.{least_common_is_least}
-use Rattle.dz_terms.specs.Ranked.{symbols_under}
-use Rattle.dz_terms.proofs.SymbolLaws.{ranking_order}
-use Rattle.dz_diff.specs.Lists.{AllOf}
+use Rattle.dz_monomials.specs.Ranked.{symbols_under}
+use Rattle.dz_monomials.proofs.SymbolLaws.{ranking_order}
+use Rattle.dz_monomials.specs.Lists.{AllOf}
 use Rattle.dz_diff.specs.Over.{IsOver}
 use Rattle.dz_diff.specs.Operations.{operator_answer, setting_of}
 use Rattle.dz_diff.specs.Operators.{divides, exponent_differences, quotient}
 use Rattle.dz_diff.specs.State.{State, at_place}
-use Rattle.dz_diff.proofs.Answers.{bind_ok, ok_same, both}
+use Rattle.dz_algebra.proofs.Outcomes.{bind_ok, ok_same, both}
 use Rattle.dz_diff.proofs.Goodness.{Good, good_difference, good_norm, good_operator, good_product, good_separant, good_terms}
 use Rattle.dz_diff.proofs.Overs.{good_over}
 use Rattle.dz_step.specs.declared.Which.TheVariants.{Separant}

@@ -8,7 +8,7 @@ use Rattle.dz_algebra.specs.Size.{Refusal, separant_answer}
 use Rattle.dz_algebra.specs.Symbols.{Symbols}
 use Rattle.dz_int.specs.Fractions.{Fraction}
 use Rattle.dz_rank.specs.declared.symbols.Symbol.{Symbol}
-use Rattle.dz_diff.specs.Outcome.{◌>>=◌, given, needs, told_as}
+use Rattle.dz_algebra.specs.Outcome.{◌>>=◌, given, needs, told_as}
 use Rattle.dz_diff.specs.Tests.{Polynomials}
 use Rattle.dz_step.proofs.Searches.{drop_here, drop_end}
 use Rattle.dz_jet.specs.declared.faults.At.TheVariants as ats

@@ -8,8 +8,8 @@ use Rattle.dz_rank.specs.Rankings.{RankingValue, ranking_cmp, IsOrderly}
 use Rattle.dz_rank.specs.Symbols.{BelongsTo, is_derivative, total_order}
 use Rattle.dz_rank.specs.declared.symbols.Symbol.{Symbol}
 use Rattle.dz_rank.specs.declared.symbols.Symbol.TheVariants.{Independent, Derivative}
-use Rattle.dz_terms.proofs.SymbolLaws.{ranking_order}
-use Rattle.dz_diff.specs.Lists.{SomeOf}
+use Rattle.dz_monomials.proofs.SymbolLaws.{ranking_order}
+use Rattle.dz_monomials.specs.Lists.{SomeOf}
 use Rattle.dz_diff.proofs.Places.{some_left, some_right}
 use Rattle.dz_jet.specs.Clashes.{IsInitialSegment}
 

@@ -9,9 +9,9 @@ use Rattle.dz_algebra.specs.Symbols.{Symbols}
 use Rattle.dz_algebra.proofs.Operations.{operation_is}
 use Rattle.dz_int.specs.Fractions.{Fraction}
 use Rattle.dz_rank.specs.declared.symbols.Symbol.{Symbol}
-use Rattle.dz_diff.specs.Outcome.{told_as}
+use Rattle.dz_algebra.specs.Outcome.{told_as}
 use Rattle.dz_diff.specs.Tests.{Polynomials}
-use Rattle.dz_diff.proofs.Answers.{bind_ok, ok_same, then_ok, told_ok}
+use Rattle.dz_algebra.proofs.Outcomes.{bind_ok, ok_same, then_ok, told_ok}
 use Rattle.dz_jet.specs.declared.faults.At.TheVariants as ats
 use Rattle.dz_jet.specs.declared.faults.JetFault.{JetFault}
 use Rattle.dz_jet.specs.declared.faults.JetFault.TheVariants as faults

@@ -9,17 +9,18 @@ use Rattle.dz_rank.specs.Rankings.{RankingValue, ranking_cmp}
 use Rattle.dz_rank.specs.Symbols.{is_derivative}
 use Rattle.dz_rank.specs.declared.symbols.Symbol.{Symbol}
 use Rattle.dz_rank.specs.declared.symbols.Symbol.TheVariants.{Independent, Derivative}
-use Rattle.dz_terms.specs.Ranked.{symbols_under}
-use Rattle.dz_terms.proofs.SymbolLaws.{ranking_order}
-use Rattle.dz_diff.specs.Lists.{AllOf}
+use Rattle.dz_monomials.specs.Ranked.{symbols_under}
+use Rattle.dz_monomials.proofs.SymbolLaws.{ranking_order}
+use Rattle.dz_monomials.specs.Lists.{AllOf}
 use Rattle.dz_diff.specs.Tests.{same_symbol}
 use Rattle.dz_diff.proofs.Places.{some_parts}
 use Rattle.dz_jet.specs.Jets.{Values, given_to, independents_of}
-use Rattle.dz_jet.specs.Tables.{AreSorted, HaveOneValue, IsRising, IsTable, keys}
+use Rattle.dz_jet.specs.Tables.{AreSorted, HaveOneValue, IsTable, keys}
+use Rattle.dz_parametric.specs.Orders.{IsRising}
 use Rattle.dz_jet.proofs.FoldSteps.{any_default}
 use Rattle.dz_jet.proofs.Found.{less_itself}
 use Rattle.dz_jet.proofs.JetLists.{itself_same, key_or_none, same_is}
-use Rattle.dz_jet.proofs.JetSymbols.{In, all_map, all_range, of_member}
+use Rattle.dz_parametric.proofs.Members.{In, all_map, all_range, of_member}
 
 keys_drop : (n : ℕ) (xs : Values) → keys (drop n xs) ≡ drop n (keys xs)
 keys_drop zero xs = refl

@@ -7,7 +7,7 @@ use Rattle.dz_algebra.proofs.DomainValues.{value_is_value, value_of_sum, value_o
 use Rattle.dz_algebra.proofs.PolynomialRing.{polynomial_ring}
 use Rattle.dz_rank.specs.Rankings.{RankingValue, ranking_cmp}
 use Rattle.dz_rank.specs.declared.symbols.Symbol.{Symbol}
-use Rattle.dz_terms.proofs.SymbolLaws.{ranking_order}
+use Rattle.dz_monomials.proofs.SymbolLaws.{ranking_order}
 use Rattle.dz_jet.specs.Clashes.{HasZero}
 use Rattle.dz_jet.proofs.Ideals.{IsPrimeIdeal}
 use Rattle.dz_jet.proofs.Operators.{Poly}

@@ -6,7 +6,7 @@ use Rattle.dz_rank.specs.Rankings.{RankingValue}
 use Rattle.dz_rank.specs.Symbols.{IsOperatorOf, derivative_by}
 use Rattle.dz_rank.specs.declared.symbols.Operator.{Operator}
 use Rattle.dz_rank.specs.declared.symbols.Symbol.{Symbol}
-use Rattle.dz_terms.specs.Ranked.{symbols_under}
+use Rattle.dz_monomials.specs.Ranked.{symbols_under}
 use Rattle.dz_diff.specs.State.{State, at_place}
 use Rattle.dz_jet.specs.Derivatives.{derivative_of}
 

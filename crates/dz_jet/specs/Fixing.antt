@@ -7,7 +7,7 @@ use Rattle.dz_rank.specs.declared.symbols.Operator.{Operator}
 use Rattle.dz_rank.specs.declared.symbols.Symbol.{Symbol}
 use Rattle.dz_int.specs.Fractions.{Fraction}
 use Rattle.dz_diff.specs.Operators.{is_proper, quotient}
-use Rattle.dz_diff.specs.Outcome.{◌>>=◌, given}
+use Rattle.dz_algebra.specs.Outcome.{◌>>=◌, given}
 use Rattle.dz_diff.specs.Tests.{Polynomials}
 use Rattle.dz_jet.specs.declared.leading.Fixing.{Fixing}
 use Rattle.dz_jet.specs.declared.faults.At.TheVariants as ats

@@ -1,10 +1,7 @@
 -- Jets of chains: values of the derivatives up to a total order, as a chain fixes them (this project's form).
-use Rattle.std.specs.Prelude.{⊤, ℕ, zero, suc, ◌+◌, ◌-◌, max, Bool, true, false, not, ◌||◌, cond, List, [], ◌∷◌, ◌++◌, map, pos, Option, Some, None, Result, Ok, Err}
+use Rattle.std.specs.Prelude.{⊤, ℕ, zero, suc, max, Bool, true, false, not, ◌||◌, cond, List, [], ◌∷◌, ◌++◌, map, pos, Option, Some, None, Result, Ok, Err}
 use Rattle.std.specs.List.{filter, find, range_with_len}
-use Rattle.std.specs.Prelude.{replicate, flat_map}
-use Rattle.std.specs.declared.cmp.Ordering.{Ordering}
 use Rattle.std.specs.Option.{is_none, option_and_then}
-use Rattle.std.specs.Ordering.{match_ordering}
 use Rattle.dz_algebra.specs.Monomial.{Monomial}
 use Rattle.dz_algebra.specs.Parts.{coefficient_of, initial, leader, separant}
 use Rattle.dz_algebra.specs.Polynomial.{Polynomial}
@@ -14,9 +11,9 @@ use Rattle.dz_int.specs.Fractions.{Fraction}
 use Rattle.dz_rank.specs.declared.rankings.Signature.{Signature}
 use Rattle.dz_rank.specs.declared.symbols.Operator.{Operator}
 use Rattle.dz_rank.specs.declared.symbols.Symbol.{Symbol}
-use Rattle.dz_rank.specs.declared.symbols.Symbol.TheVariants.{Independent, Derivative}
+use Rattle.dz_rank.specs.declared.symbols.Symbol.TheVariants.{Independent}
 use Rattle.dz_rank.specs.Rankings.{RankingValue}
-use Rattle.dz_diff.specs.Outcome.{◌>>=◌, needs, given, told_as}
+use Rattle.dz_algebra.specs.Outcome.{◌>>=◌, needs, given, told_as}
 use Rattle.dz_diff.specs.Operations.{Setting, operator_answer, setting_of}
 use Rattle.dz_diff.specs.Operators.{is_proper, quotient}
 use Rattle.dz_diff.specs.State.{State}
@@ -26,6 +23,7 @@ use Rattle.dz_jet.specs.declared.faults.JetFault.{JetFault}
 use Rattle.dz_jet.specs.declared.faults.JetFault.TheVariants as faults
 use Rattle.dz_jet.specs.declared.faults.Part.{Part}
 use Rattle.dz_jet.specs.declared.faults.Part.TheVariants as parts
+use Rattle.dz_parametric.specs.Orders.{derivatives_to}
 use Rattle.dz_jet.specs.Fractions.{whole, fraction_negative, is_zero_fraction, sum_answer, product_answer, quotient_answer}
 
 -- ---- faults
@@ -73,27 +71,6 @@ unfoldable pub value_answer : JetFault → (Symbol → Fraction) → Polynomial 
 value_answer e at p = given (value_from at p (whole (pos 0))) e
 
 -- ---- the symbols of a jet
--- the lists of n exponents with a sum of at most m
-abbrev pub exponents_to : ℕ → ℕ → List (List ℕ)
-exponents_to zero m = [] ∷ []
-exponents_to (suc n) m = flat_map (λ k. map (λ (ks : List ℕ). k ∷ ks) (exponents_to n (m - k))) (range_with_len 0 (m + 1))
-
--- a symbol put into a rising list
-abbrev pub put : (Symbol → Symbol → Ordering) → Symbol → List Symbol → List Symbol
-put cmp s [] = s ∷ []
-put cmp s (t ∷ ts) = match_ordering (cmp s t) (s ∷ t ∷ ts) (t ∷ ts) (t ∷ put cmp s ts)
-
--- the symbols in increasing order
-abbrev pub rising : (Symbol → Symbol → Ordering) → List Symbol → List Symbol
-rising cmp [] = []
-rising cmp (s ∷ ss) = put cmp s (rising cmp ss)
-
--- the derivatives of a signature up to total order m, in increasing order
-unfoldable pub derivatives_to : RankingValue → ℕ → List Symbol
-derivatives_to r m =
-    let n = r.signature.independents in
-    rising (setting_of r).symbols.cmp (flat_map (λ u. map (λ (ks : List ℕ). Derivative u (record { counts = ks ++ replicate (4 - n) 0 })) (exponents_to n m)) (range_with_len 0 r.signature.dependents))
-
 -- the independents in declared order
 abbrev pub independents_of : Signature → List Symbol
 independents_of g = map (λ i. Independent i) (range_with_len 0 g.independents)

@@ -5,8 +5,8 @@ use Rattle.dz_rank.specs.Rankings.{RankingValue, IsOrderly}
 use Rattle.dz_rank.specs.Symbols.{total_order}
 use Rattle.dz_rank.specs.declared.symbols.Symbol.{Symbol}
 use Rattle.dz_diff.specs.State.{State}
-use Rattle.dz_terms.specs.Ranked.{symbols_under}
-use Rattle.dz_diff.specs.Lists.{AllOf}
+use Rattle.dz_monomials.specs.Ranked.{symbols_under}
+use Rattle.dz_monomials.specs.Lists.{AllOf}
 use Rattle.dz_jet.specs.Clashes.{AgreesAt, IsFixed, IsInitialSegment}
 use Rattle.dz_jet.specs.Fractions.{fraction_operations, is_reduced}
 use Rattle.dz_jet.specs.Jets.{Values, value_in, jet_order, jet_answer}

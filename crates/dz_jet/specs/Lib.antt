@@ -9,7 +9,7 @@ pub mod Stops
 pub mod Tables
 pub mod Fixing
 pub mod Making
-pub mod Listing
 pub mod Orderliness
 pub mod Writable
 pub mod FaultSymbols
+pub mod Initial

@@ -1,18 +1,17 @@
 -- Lists of values in the order of a ranking. No public clause cites this file.
-use Rattle.std.specs.Prelude.{⊤, ◌≡◌, true, not, List, [], ◌∷◌, ◌++◌, map, ℤ, Option}
+use Rattle.std.specs.Prelude.{◌≡◌, true, not, List, ◌++◌, map, ℤ, Option}
 use Rattle.std.specs.Option.{option_and_then}
 use Rattle.std.specs.List.{Contains, filter, find}
 use Rattle.std.specs.List.Sorted.{IsSorted}
-use Rattle.std.specs.declared.cmp.Ordering.{Ordering}
-use Rattle.std.specs.declared.cmp.Ordering.TheVariants.{Less}
 use Rattle.dz_algebra.specs.Monomial.{Monomial}
 use Rattle.dz_int.specs.Fractions.{Fraction}
 use Rattle.dz_rank.specs.Rankings.{RankingValue, ranking_cmp}
 use Rattle.dz_rank.specs.Symbols.{is_derivative}
 use Rattle.dz_rank.specs.declared.symbols.Symbol.{Symbol}
-use Rattle.dz_terms.specs.Ranked.{symbols_under}
-use Rattle.dz_diff.specs.Lists.{AllOf}
+use Rattle.dz_monomials.specs.Ranked.{symbols_under}
+use Rattle.dz_monomials.specs.Lists.{AllOf}
 use Rattle.dz_diff.specs.State.{State}
+use Rattle.dz_parametric.specs.Orders.{IsRising}
 use Rattle.dz_jet.specs.Fractions.{whole, sum_answer}
 use Rattle.dz_jet.specs.Jets.{Values, independents_of, is_among, is_given, is_needed, term_value}
 
@@ -27,11 +26,6 @@ AreSorted r xs = IsSorted (λ p q. ranking_cmp r p.0 q.0) xs
 -- no symbol has two values
 abbrev pub HaveOneValue : Values → Type 0
 HaveOneValue xs = (s : Symbol) (v w : Fraction) → Contains xs (s, v) → Contains xs (s, w) → v ≡ w
-
--- each symbol is less than all that follow it
-abbrev pub IsRising : (Symbol → Symbol → Ordering) → List Symbol → Type 0
-IsRising cmp [] = ⊤
-IsRising cmp (s ∷ ss) = AllOf (λ t. cmp s t ≡ Less) ss × IsRising cmp ss
 
 -- the independents in declared order, and derivatives in increasing order
 pub record IsTable (r : RankingValue) (xs : Values) : Type 0 where

@@ -1,7 +1,7 @@
 //! The derivatives of equations, each made once and derived further.
 
-ghost use Rattle.std.specs.Prelude.{◌≡◌, ◌<◌, All, IfSome, List, OnErr, OnOk, ℕ, length, slice_index_or, true};
-ghost use Rattle.dz_poly.specs.Books.{BookValue, Gives, IsKept, Lives, polynomial};
+ghost use Rattle.std.specs.Prelude.{◌≡◌, ◌<◌, All, IfSome, List, ℕ, length, slice_index_or, true};
+ghost use Rattle.dz_poly.specs.Books.{BookValue, Lives, Makes, polynomial};
 ghost use Rattle.dz_rank.specs.Symbols.{IsOperatorOf};
 ghost use Rattle.dz_diff.specs.Operations.{operator_answer, setting_of};
 ghost use Rattle.dz_diff.specs.Operators.{is_proper};
@@ -108,10 +108,8 @@ pub(crate) fn derivative(
     requires operator { IsOperatorOf book.old.ranking.signature.independents fixing.operator }
     requires proper { is_proper fixing.operator ≡ true }
     requires made { All (IsMade book.old equations.now) made.now }
-    ensures derivative { Gives book.new result (operator_answer (setting_of book.old.ranking)
+    ensures { Makes book.old book.new result (operator_answer (setting_of book.old.ranking)
         fixing.operator (polynomial book.old (slice_index_or equations.now fixing.index 0))) }
-    ensures kept { OnOk result (IsKept book.old book.new) }
-    ensures refused { OnErr result (book.new ≡ book.old) }
 {
     let i = last_derivation(fixing.operator);
     let operator = lowered(fixing.operator, i);

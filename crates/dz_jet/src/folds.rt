@@ -4,7 +4,7 @@ ghost use Rattle.std.specs.Prelude.{◌≡◌, ◌<◌, length, pos};
 ghost use Rattle.dz_algebra.specs.Parts.{coefficient_of};
 ghost use Rattle.dz_poly.specs.Books.{Lives, polynomial, term_at};
 ghost use Rattle.dz_rank.specs.Rankings.{ranking_cmp};
-ghost use Rattle.dz_terms.specs.Ranked.{symbols_under};
+ghost use Rattle.dz_monomials.specs.Ranked.{symbols_under};
 ghost use Rattle.dz_jet.specs.Fractions.{whole};
 ghost use Rattle.dz_jet.specs.Jets.{multiplied, term_value, value_from, value_in};
 ghost use Rattle.dz_jet.specs.Tables.{IsTable, with_term};

@@ -4,7 +4,7 @@ ghost use Rattle.std.specs.Prelude.{◌≡◌, MatchOption, None};
 ghost use Rattle.dz_algebra.specs.Parts.{leader};
 ghost use Rattle.dz_rank.specs.Symbols.{HasFourExponents};
 ghost use Rattle.dz_poly.specs.Books.{Lives, polynomial};
-ghost use Rattle.dz_terms.specs.Ranked.{symbols_under};
+ghost use Rattle.dz_monomials.specs.Ranked.{symbols_under};
 ghost use Rattle.dz_diff.specs.Operators.{is_proper};
 ghost use Rattle.dz_diff.specs.States.{LiveAll, polynomials};
 ghost use Rattle.dz_jet.specs.Jets.{leading_to};

@@ -5,7 +5,7 @@ ghost use Rattle.dz_poly.specs.Books.{IsKept};
 ghost use Rattle.dz_rank.specs.Rankings.{IsOrderly};
 ghost use Rattle.dz_rank.specs.Symbols.{BelongsTo, total_order};
 ghost use Rattle.dz_rank.specs.declared.symbols.Symbol.{Symbol as SymbolValue};
-ghost use Rattle.dz_terms.specs.Ranked.{symbols_under};
+ghost use Rattle.dz_monomials.specs.Ranked.{symbols_under};
 ghost use Rattle.dz_diff.specs.States.{StandsIn, state_in};
 ghost use Rattle.dz_jet.specs.declared.faults.JetFault.TheVariants.{NotOrderly};
 ghost use Rattle.dz_move.specs.Lines.{Evidence};
@@ -15,7 +15,7 @@ ghost use Rattle.dz_jet.specs.Fractions.{fraction_operations};
 ghost use Rattle.dz_syntax.specs.Systems.{AreDistinct};
 ghost use Rattle.dz_jet.specs.Jets.{jet_answer, jet_order, value_in};
 ghost use Rattle.dz_jet.specs.Laws.{AreReduced};
-ghost use Rattle.dz_jet.specs.Stops.{IsFault};
+ghost use Rattle.dz_jet.specs.Stops.{IsFault, IsJet};
 ghost use Rattle.dz_jet.specs.Writable.{IsWritable};
 
 use crate::faults::JetFault;
@@ -50,10 +50,8 @@ fn jet_in_book(
     requires stands { StandsIn book.old chain.now }
     requires belong { All (λ p. BelongsTo book.old.ranking.signature p.0) values.now }
     requires distinct { AreDistinct values.now }
-    ensures values { IfOk result (λ jet. jet_answer book.old.ranking
-        (state_in book.old chain.now) values.now order ≡ Ok jet.values) }
-    ensures order { IfOk result (λ jet. jet.order
-        ≡ jet_order (symbols_under book.old.ranking) (state_in book.old chain.now) order) }
+    ensures jet { IfOk result (IsJet book.old.ranking (state_in book.old chain.now)
+        values.now order) }
     ensures fault { IfErr result (λ e. IsFault e (jet_answer book.old.ranking
         (state_in book.old chain.now) values.now order)) }
     ensures kept { IsKept book.old book.new }

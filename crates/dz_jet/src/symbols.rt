@@ -1,17 +1,18 @@
 //! The symbols of a jet.
 
-ghost use Rattle.std.specs.Prelude.{◌≡◌, ◌<◌, ◌≤◌, ◌-◌, ◌++◌, All, IfOk, OnOk, drop, length, take};
+ghost use Rattle.std.specs.Prelude.{◌≡◌, ◌<◌, ◌++◌, IfOk, length};
 ghost use Rattle.dz_poly.specs.Books.{Lives, polynomial, term_at};
 ghost use Rattle.dz_rank.specs.Symbols.{total_order};
-ghost use Rattle.dz_terms.specs.Ranked.{symbols_under};
+ghost use Rattle.dz_monomials.specs.Ranked.{symbols_under};
 ghost use Rattle.dz_diff.specs.States.{LiveAll, StandsIn, polynomials, state_in};
-ghost use Rattle.dz_jet.specs.Jets.{derivatives_to, independents_of, jet_order};
+ghost use Rattle.dz_parametric.specs.Orders.{derivatives_to};
+ghost use Rattle.dz_jet.specs.Jets.{independents_of, jet_order};
 ghost use Rattle.dz_jet.specs.Jets.{order_of, order_of_all, order_of_monomial};
-ghost use Rattle.dz_jet.specs.Listing.{derivatives_from};
 
 use dz_diff::State;
+use dz_parametric::derivatives_to;
 use dz_poly::{Book, Poly, power_at, power_count, term_count};
-use dz_rank::{Operator, Ranking, Symbol};
+use dz_rank::{Ranking, Symbol};
 use std::alloc::{AllocError, Global};
 
 /// The total order of a symbol, 0 for an independent.
@@ -76,66 +77,6 @@ pub(crate) fn jet_order(book: &Book, chain: &State, least: u8) -> u8
     book.opened();
     let order = order_of_all(book, chain.equations(), u16::from(least));
     order_of_all(book, chain.inequations(), order) as u8
-}
-
-/// Adds the derivatives of a dependent by the operators that have these exponents before a
-/// position, and from there on ones with a sum of at most `most`.
-fn add_derivatives(
-    into: &mut Vec<Symbol>,
-    independents: u8,
-    dependent: u8,
-    operator: Operator,
-    i: u8,
-    most: u8,
-) -> Result<(), AllocError>
-    requires within { i ≤ independents }
-    requires few { independents ≤ 4 }
-    requires zeros { All (λ k. k ≡ 0) (drop i operator.counts) }
-    ensures { OnOk result (into.new.items ≡ into.old.items
-        ++ derivatives_from independents dependent (take i operator.counts)
-        (independents - i) most) }
-{
-    if i == independents {
-        into.push(Symbol::Derivative {
-            dependent,
-            operator,
-        })?;
-        return Ok(());
-    }
-    for k in 0..=most {
-        let mut counts = operator.counts;
-        counts[i as usize] = k;
-        add_derivatives(
-            into,
-            independents,
-            dependent,
-            Operator { counts },
-            i + 1,
-            most - k,
-        )?;
-    }
-    Ok(())
-}
-
-/// The derivatives up to a total order, in increasing order.
-fn derivatives_to(alloc: Global, ranking: &Ranking, order: u8) -> Result<Vec<Symbol>, AllocError>
-    ensures { IfOk result (λ xs. xs.items ≡ derivatives_to ranking.now order) }
-{
-    let signature = ranking.signature();
-    let mut derivatives = Vec::new(alloc);
-    for u in 0..signature.dependents {
-        let identity = Operator { counts: [0; 4] };
-        add_derivatives(
-            &mut derivatives,
-            signature.independents,
-            u,
-            identity,
-            0,
-            order,
-        )?;
-    }
-    derivatives.sort_unstable_by(|a, b| ranking.compare(*a, *b));
-    Ok(derivatives)
 }
 
 /// The symbols of a jet: the independents in declared order, and the derivatives up to its order

@@ -1,7 +1,7 @@
 //! Values of symbols in lists, found by binary search.
 
 ghost use Rattle.std.specs.Prelude.{◌≡◌};
-ghost use Rattle.dz_terms.specs.Ranked.{symbols_under};
+ghost use Rattle.dz_monomials.specs.Ranked.{symbols_under};
 ghost use Rattle.dz_jet.specs.Jets.{given_to, value_in};
 ghost use Rattle.dz_jet.specs.Tables.{AreSorted, HaveOneValue, IsTable};
 

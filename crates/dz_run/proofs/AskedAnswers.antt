@@ -13,12 +13,13 @@ use Rattle.dz_syntax.specs.Names.{Declared}
 use Rattle.dz_syntax.specs.Systems.{Tree as Text}
 use Rattle.dz_move.specs.Root.{System}
 use Rattle.dz_move.specs.Systems.{IsSystemIn, SystemValue, system_in, system_limit}
-use Rattle.dz_run.specs.declared.asking.Asked.{Asked}
+use Rattle.dz_report.specs.declared.asked.Asked.{Asked}
 use Rattle.dz_run.specs.declared.ending.Ending.{Ending}
 use Rattle.dz_run.specs.declared.ending.Ending.TheVariants.{Done}
 use Rattle.dz_run.specs.declared.system.Refused.{Refused}
 use Rattle.dz_run.specs.Answer.{Answer, continued, printed, with_expanded, with_questions}
-use Rattle.dz_run.specs.Asked.{asked, report_answer, report_ending, report_of}
+use Rattle.dz_report.specs.Asked.{report_of}
+use Rattle.dz_run.specs.Asked.{asked, report_answer, report_ending}
 use Rattle.dz_run.specs.Decomposed.{decomposed, worked_chains}
 use Rattle.dz_run.specs.System.{GivesSystem, questions_answer, ranking_of, system_answer}
 

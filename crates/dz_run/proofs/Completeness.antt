@@ -2,9 +2,9 @@
 use Rattle.std.specs.Prelude.{IsOk, unwrap_or}
 use Rattle.std.proofs.Common.{◌≡◌, ◌∙◌, ◌+◌, ◌++◌, ◌&&◌, ℕ, nat_le, Bool, true, false, List, [], ◌∷◌, length, map, refl, sym, ap, subst, None, Result, Ok, Err}
 use Rattle.dz_diff.specs.Operations.{Setting}
-use Rattle.dz_diff.specs.Outcome.{◌>>=◌, told_as}
+use Rattle.dz_algebra.specs.Outcome.{◌>>=◌, told_as}
 use Rattle.dz_diff.specs.State.{State}
-use Rattle.dz_diff.proofs.Answers.{bind_ok, ok_same, then_ok}
+use Rattle.dz_algebra.proofs.Outcomes.{bind_ok, ok_same, then_ok}
 use Rattle.dz_check.specs.Certified.{IsCertified}
 use Rattle.dz_tree.specs.Chain.{chain_weight}
 use Rattle.dz_move.specs.Lines.{Evidence, Line, act, closed, chain, pair, spent, spent_pairs, open_wide, open_separant, open_large, Entry, entries_of, lines_of}

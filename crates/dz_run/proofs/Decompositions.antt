@@ -1,5 +1,5 @@
 -- What runs of `decompose` and `reduce` that are done mean at a point.
-use Rattle.std.proofs.Common.{◌≡◌, ◌≤◌, List, [], ◌++◌, ℕ, Bool, true, Ok, ap, refl, subst, sym, ◌∙◌}
+use Rattle.std.proofs.Common.{◌≡◌, ◌⊎◌, inl, inr, ◌≤◌, List, [], ◌++◌, ℕ, Bool, true, Ok, ap, refl, subst, sym, ◌∙◌}
 use Rattle.std.specs.Io.KnownBytes.{Appends}
 use Rattle.dz_algebra.specs.Domain.{DomainLaws, Operations}
 use Rattle.dz_algebra.specs.Polynomial.{Polynomial}
@@ -7,7 +7,7 @@ use Rattle.dz_ask.specs.Vanishing.{RunsToZero}
 use Rattle.dz_ask.proofs.NormalEnds.{ended_normal}
 use Rattle.dz_cert.specs.Documents.{document_of, ended_lines}
 use Rattle.dz_domain.specs.Point.{Coordinates, FitsSignature, IsPoint}
-use Rattle.dz_diff.specs.Lists.{AllOf}
+use Rattle.dz_monomials.specs.Lists.{AllOf}
 use Rattle.dz_diff.specs.Operations.{setting_of}
 use Rattle.dz_diff.specs.Over.{AreOver, IsOver}
 use Rattle.dz_diff.specs.State.{State}
@@ -41,11 +41,12 @@ use Rattle.dz_words.proofs.Written.{in_range, one_asked}
 use Rattle.dz_zeros.specs.Runs.{RunsToZero as HasRunToZero}
 use Rattle.dz_zeros.specs.Solves.{HasValueZero, Solves}
 use Rattle.dz_zeros.proofs.ZeroSetLaws.{zero_sets}
-use Rattle.dz_run.specs.declared.asking.Asked.TheVariants.{Reductions}
+use Rattle.dz_report.specs.declared.asked.Asked.TheVariants.{Reductions}
 use Rattle.dz_run.specs.declared.ending.Ending.{Ending}
 use Rattle.dz_run.specs.declared.ending.Ending.TheVariants.{Done, Rejected, NotWritten, Syntax, Document, Wide, Spent, Large, ReadFault, WriteFault, WriteStuck, NoMemory, Point, TooLong}
 use Rattle.dz_run.specs.Answer.{Answer}
-use Rattle.dz_run.specs.Asked.{asked, report_answer, report_of}
+use Rattle.dz_report.specs.Asked.{report_of}
+use Rattle.dz_run.specs.Asked.{asked, report_answer}
 use Rattle.dz_run.specs.Decomposed.{decomposed, tree_chains, worked_chains}
 use Rattle.dz_run.specs.Ending.{status_of}
 use Rattle.dz_run.specs.Headline.{IsDecomposed, IsReduced}
@@ -53,23 +54,23 @@ use Rattle.dz_run.specs.Run.{Ends, Input, IsGiven, IsRead, IsTaken, Output}
 use Rattle.dz_run.specs.System.{questions_answer, ranking_of, system_answer}
 use Rattle.dz_run.specs.Verbs.{answer_to, has_input}
 use Rattle.dz_run.proofs.Completeness.{done_is_complete}
-use Rattle.dz_run.proofs.DoneAnswers.{both_done, done_expanded, told_done}
+use Rattle.dz_run.proofs.DoneAnswers.{continued_or, done_expanded, told_done}
 use Rattle.dz_run.proofs.ItemsStand.{questions_stand, system_stands}
 
 -- ---- the worked tree of a text
 -- the worked tree of a system and a budget
-abbrev tree_of : Text → ℕ → System → Tree
+abbrev pub tree_of : Text → ℕ → System → Tree
 tree_of text budget system = worked_tree (setting_of (ranking_of text)) budget system
 
 -- A text was read and spells a system whose worked tree is complete.
-record HasTree (text : Text) (budget : ℕ) (system : System) : Type 0 where
-  over : AreOver (ranking_of text) system.equations system.inequations
-  certified : IsCertified (setting_of (ranking_of text)) system (tree_of text budget system)
-  complete : all_chains (ends_in (ends_of (setting_of (ranking_of text)) system (tree_of text budget system))) ≡ true
-  chains : AllOf (IsChain (setting_of (ranking_of text))) (tree_chains (ranking_of text) system (tree_of text budget system))
+pub record HasTree (text : Text) (budget : ℕ) (system : System) : Type 0 where
+  pub over : AreOver (ranking_of text) system.equations system.inequations
+  pub certified : IsCertified (setting_of (ranking_of text)) system (tree_of text budget system)
+  pub complete : all_chains (ends_in (ends_of (setting_of (ranking_of text)) system (tree_of text budget system))) ≡ true
+  pub chains : AllOf (IsChain (setting_of (ranking_of text))) (tree_chains (ranking_of text) system (tree_of text budget system))
 
 -- the answer of `decompose` is its document where it is done
-has_tree : (form : Form) (bytes : List ℕ) (text : Text) (budget : ℕ) (system : System) → system_of form bytes ≡ Ok text → budget ≤ 20000000 → system_answer text ≡ Ok system
+pub has_tree : (form : Form) (bytes : List ℕ) (text : Text) (budget : ℕ) (system : System) → system_of form bytes ≡ Ok text → budget ≤ 20000000 → system_answer text ≡ Ok system
     → (decomposed (ranking_of text) text.names budget system).ending ≡ Done → HasTree text budget system
 unfolding decomposed
 has_tree form bytes text budget system spelled most expanded done =
@@ -89,7 +90,7 @@ has_tree form bytes text budget system spelled most expanded done =
     over_of {r} {s} few h = record { equations_over = keepables_over r few s.equations h.equations_keepable; inequations_over = keepables_over r few s.inequations h.inequations_keepable }
 
 -- what is printed of it
-document_is : (text : Text) (budget : ℕ) (system : System) → (decomposed (ranking_of text) text.names budget system).output ≡ document_of (setting_of (ranking_of text)) text.names system (tree_of text budget system)
+pub document_is : (text : Text) (budget : ℕ) (system : System) → (decomposed (ranking_of text) text.names budget system).output ≡ document_of (setting_of (ranking_of text)) text.names system (tree_of text budget system)
 unfolding decomposed
 document_is text budget system = refl
 
@@ -108,15 +109,15 @@ answer_made q verb bytes done =
     let made = done_expanded (system_answer told.0) (decomposed (ranking_of told.0) told.0.names q.budget) (sym (ap (λ a. a.ending) told.2) ∙ done) in
     record { text = told.0; system = made.0; spelled = told.1; expanded = made.1; is = told.2 ∙ made.2 }
 
--- an answer of `reduce` that is done
-record IsAsked (budget : ℕ) (bytes : List ℕ) (answer : Answer) : Type 0 where
-  text : Text
-  system : System
-  questions : Polynomials
-  spelled : system_of Questions bytes ≡ Ok text
-  expanded : system_answer text ≡ Ok system
-  asked_are : questions_answer text ≡ Ok questions
-  is : answer ≡ asked Reductions (ranking_of text) text.names budget system questions
+-- an answer of `reduce` to questions
+pub record IsAsked (budget : ℕ) (bytes : List ℕ) (answer : Answer) : Type 0 where
+  pub text : Text
+  pub system : System
+  pub questions : Polynomials
+  pub spelled : system_of Questions bytes ≡ Ok text
+  pub expanded : system_answer text ≡ Ok system
+  pub asked_are : questions_answer text ≡ Ok questions
+  pub is : answer ≡ asked Reductions (ranking_of text) text.names budget system questions
 
 answer_asked : (q : Request) → q.verb ≡ Reduce → (bytes : List ℕ) → (answer_to q bytes).ending ≡ Done → IsAsked q.budget bytes (answer_to q bytes)
 answer_asked q verb bytes done =
@@ -126,20 +127,39 @@ answer_asked q verb bytes done =
     let more = done_expanded (questions_answer told.0) (answer made.0) (sym (ap (λ a. a.ending) (told.2 ∙ made.2)) ∙ done) in
     record { text = told.0; system = made.0; questions = more.0; spelled = told.1; expanded = made.1; asked_are = more.1; is = told.2 ∙ made.2 ∙ more.2 }
 
--- its output is the document, and the report behind it
-asked_output : (text : Text) (budget : ℕ) (system : System) (questions : Polynomials) → (asked Reductions (ranking_of text) text.names budget system questions).ending ≡ Done
-    → ((decomposed (ranking_of text) text.names budget system).ending ≡ Done)
-    × ((asked Reductions (ranking_of text) text.names budget system questions).output
-    ≡ document_of (setting_of (ranking_of text)) text.names system (tree_of text budget system)
-    ++ ended_lines (reduction_report (setting_of (ranking_of text)) text.names budget questions (tree_chains (ranking_of text) system (tree_of text budget system))).lines)
+-- the document of its tree, and the report behind it
+abbrev pub document_and_report : Text → ℕ → System → Polynomials → List ℕ
+document_and_report text budget system questions =
+    document_of (setting_of (ranking_of text)) text.names system (tree_of text budget system)
+    ++ ended_lines (reduction_report (setting_of (ranking_of text)) text.names budget questions (tree_chains (ranking_of text) system (tree_of text budget system))).lines
+
+-- They are its output where the tree is complete; and where it is not, the answer is that of `decompose`.
+abbrev pub IsReported : Text → ℕ → System → Polynomials → Type 0
+IsReported text budget system questions =
+    ((decomposed (ranking_of text) text.names budget system).ending ≡ Done)
+    × ((asked Reductions (ranking_of text) text.names budget system questions).output ≡ document_and_report text budget system questions)
+
+pub reported_or_not : (text : Text) (budget : ℕ) (system : System) (questions : Polynomials)
+    → IsReported text budget system questions
+    ⊎ (((decomposed (ranking_of text) text.names budget system).ending ≡ Done → ⊥) × (asked Reductions (ranking_of text) text.names budget system questions ≡ decomposed (ranking_of text) text.names budget system))
 unfolding asked worked_chains
-asked_output text budget system questions done =
+reported_or_not text budget system questions =
     let report = report_answer (report_of Reductions (setting_of (ranking_of text)) text.names budget questions (worked_chains (ranking_of text) budget system)) in
-    let both = both_done (decomposed (ranking_of text) text.names budget system) report done in
-    (both.0, both.2 ∙ ap (λ (x : List ℕ). x ++ report.output) (document_is text budget system))
+    elim (continued_or (decomposed (ranking_of text) text.names budget system) report) [
+      | inl both ↦ inl (both.0, both.1 ∙ ap (λ (x : List ℕ). x ++ report.output) (document_is text budget system))
+      | inr first ↦ inr first
+    ]
+
+-- so they are where the answer is done
+asked_output : (text : Text) (budget : ℕ) (system : System) (questions : Polynomials) → (asked Reductions (ranking_of text) text.names budget system questions).ending ≡ Done
+    → IsReported text budget system questions
+asked_output text budget system questions done = elim (reported_or_not text budget system questions) [
+  | inl reported ↦ reported
+  | inr first ↦ absurd (first.0 (sym (ap (λ a. a.ending) first.1) ∙ done))
+]
 
 -- the bytes of an input were read, where the verb has one
-bytes_read : (verb verb' : Verb) → verb ≡ verb' → has_input verb' ≡ true → (before after : Input) (bytes : List ℕ) → IsTaken (has_input verb) before after bytes → IsRead before after bytes
+pub bytes_read : (verb verb' : Verb) → verb ≡ verb' → has_input verb' ≡ true → (before after : Input) (bytes : List ℕ) → IsTaken (has_input verb) before after bytes → IsRead before after bytes
 bytes_read verb verb' v has before after bytes h = subst (λ (b : Bool). IsTaken b before after bytes) (ap has_input v ∙ has) h
 
 -- ---- at a point
@@ -175,11 +195,10 @@ module _ {E : Type 0} {o : Operations E} (laws : DomainLaws o) {c : Coordinates 
       run_of : (s : State) → RunsToZero (setting_of (ranking_of text)) budget f s → HasRunToZero (setting_of (ranking_of text)) s f
       run_of s (steps, e) = let n = ended_normal (setting_of (ranking_of text)) s budget f steps [] e in record { steps = steps; count = n.count; is = n.is_run }
 
-  -- what is printed for a text with questions
-  asked_reduced : (before after : Input) (out out' : Output) (budget : ℕ) → budget ≤ 20000000 → (bytes : List ℕ) → IsRead before after bytes → (answer : Answer) (a : IsAsked budget bytes answer)
-      → answer.ending ≡ Done → Appends out.written out'.written answer.output → IsReduced o c budget before after out.written out'.written
-  asked_reduced before after out out' budget most bytes read answer a done printed =
-      let output = asked_output a.text budget a.system a.questions (sym (ap (λ a. a.ending) a.is) ∙ done) in
+  -- what is printed for a text with questions, where there is a report
+  pub asked_reduced : (before after : Input) (out out' : Output) (budget : ℕ) → budget ≤ 20000000 → (bytes : List ℕ) → IsRead before after bytes → (answer : Answer) (a : IsAsked budget bytes answer)
+      → IsReported a.text budget a.system a.questions → Appends out.written out'.written answer.output → IsReduced o c budget before after out.written out'.written
+  asked_reduced before after out out' budget most bytes read answer a output printed =
       let h = has_tree Questions bytes a.text budget a.system a.spelled most a.expanded output.0 in
       let few = (system_ranked Questions bytes a.text a.spelled).few_independents in
       let over : AllOf (IsOver (ranking_of a.text)) a.questions = keepables_over (ranking_of a.text) few a.questions (questions_stand a.text a.questions (system_expressions Questions bytes a.text a.spelled) a.asked_are) in
@@ -221,7 +240,9 @@ module _ {E : Type 0} {o : Operations E} (laws : DomainLaws o) {c : Coordinates 
       let is : answer_to request a.bytes ≡ given.answer = subst (λ (q : Request). answer_to q a.bytes ≡ given.answer) same a.is in
       let made = answer_asked request verb a.bytes (ap (λ a. a.ending) is ∙ given.ends) in
       let read = bytes_read a.request.verb Reduce (ap (λ q. q.verb) same ∙ verb) refl before after a.bytes a.taken in
-      asked_reduced before after out out' request.budget (in_range words request written).budget.1 a.bytes read given.answer (subst (IsAsked request.budget a.bytes) is made) given.ends given.printed
+      let asked_is = subst (IsAsked request.budget a.bytes) is made in
+      asked_reduced before after out out' request.budget (in_range words request written).budget.1 a.bytes read given.answer asked_is
+      (asked_output asked_is.text request.budget asked_is.system asked_is.questions (sym (ap (λ a. a.ending) asked_is.is) ∙ given.ends)) given.printed
 
 -- a run that ends with status 0 is given, and is done
 pub zero_given : (words : List (List ℕ)) (before after : Input) (out out' : Output) (ending : Ending) (point : List ℕ) → Ends words before after out out' ending point → status_of ending ≡ 0 → IsGiven words before after out out' Done point

@@ -1,5 +1,6 @@
 -- What an answer comes from whose ending is Done.
-use Rattle.std.proofs.Common.{◌≡◌, List, ◌++◌, ℕ, Some, Result, Ok, Err, ap, refl, sym, ◌∙◌}
+use Rattle.std.proofs.Common.{◌≡◌, ◌⊎◌, inl, inr, List, ◌++◌, ℕ, Some, Result, Ok, Err, ap, refl, subst, sym, ◌∙◌}
+use Rattle.std.specs.Prelude.{⊤}
 use Rattle.dz_syntax.specs.declared.endings.Form.{Form}
 use Rattle.dz_syntax.specs.declared.fault.SyntaxFault.{SyntaxFault}
 use Rattle.dz_syntax.specs.Systems.{Tree as Text, system_of}
@@ -54,3 +55,46 @@ both_done first next done = by_ending first.ending refl done
     by_ending NoMemory f k = absurd (let h = sym f ∙ k in cc)
     by_ending Point f k = absurd (let h = sym f ∙ k in cc)
     by_ending TooLong f k = absurd (let h = sym f ∙ k in cc)
+
+-- the first of two answers is done, and the next stands behind it; or the first is all
+pub continued_or : (first next : Answer) → ((first.ending ≡ Done) × ((continued first next).output ≡ first.output ++ next.output)) ⊎ ((first.ending ≡ Done → ⊥) × (continued first next ≡ first))
+continued_or first next = by_ending first.ending refl
+  where
+    by_ending : (e : Ending) → first.ending ≡ e → ((first.ending ≡ Done) × ((continued_at e first next).output ≡ first.output ++ next.output)) ⊎ ((first.ending ≡ Done → ⊥) × (continued_at e first next ≡ first))
+    by_ending Done f = inl (f, refl)
+    by_ending Rejected f = inr ((λ d. let h = sym f ∙ d in cc), refl)
+    by_ending NotWritten f = inr ((λ d. let h = sym f ∙ d in cc), refl)
+    by_ending (Syntax fault) f = inr ((λ d. let h = sym f ∙ d in cc), refl)
+    by_ending (Document fault) f = inr ((λ d. let h = sym f ∙ d in cc), refl)
+    by_ending Wide f = inr ((λ d. let h = sym f ∙ d in cc), refl)
+    by_ending Spent f = inr ((λ d. let h = sym f ∙ d in cc), refl)
+    by_ending Large f = inr ((λ d. let h = sym f ∙ d in cc), refl)
+    by_ending ReadFault f = inr ((λ d. let h = sym f ∙ d in cc), refl)
+    by_ending WriteFault f = inr ((λ d. let h = sym f ∙ d in cc), refl)
+    by_ending WriteStuck f = inr ((λ d. let h = sym f ∙ d in cc), refl)
+    by_ending NoMemory f = inr ((λ d. let h = sym f ∙ d in cc), refl)
+    by_ending Point f = inr ((λ d. let h = sym f ∙ d in cc), refl)
+    by_ending TooLong f = inr ((λ d. let h = sym f ∙ d in cc), refl)
+
+-- ---- answers that stop early
+-- an ending at which an answer stops early
+abbrev pub IsEarly : Ending → Type 0
+IsEarly Wide = ⊤
+IsEarly Spent = ⊤
+IsEarly Large = ⊤
+IsEarly ending = ⊥
+
+-- a text was read
+read_early : (q : Request) (verb : Verb) → q.verb ≡ verb → (bytes : List ℕ) (read : Result Text SyntaxFault) → IsEarly (reading_told q bytes read).ending
+    → (text : Text) × (read ≡ Ok text) × (reading_told q bytes read ≡ verb_told verb q bytes text)
+read_early q verb v bytes (Ok text) early = (text, refl, ap (λ v. verb_told v q bytes text) v)
+read_early q verb v bytes (Err fault) early = absurd early
+
+-- the answer of a verb that has an input is that to the text that was read
+pub told_early : (q : Request) (verb : Verb) → q.verb ≡ verb → (form : Form) → form_of verb ≡ Some form → (bytes : List ℕ) → IsEarly (answer_to q bytes).ending
+    → (text : Text) × (system_of form bytes ≡ Ok text) × (answer_to q bytes ≡ verb_told verb q bytes text)
+unfolding answer_to
+told_early q verb v form f bytes early =
+    let is : input_told q bytes (form_of q.verb) ≡ reading_told q bytes (system_of form bytes) = ap (input_told q bytes) (ap form_of v ∙ f) in
+    let read = read_early q verb v bytes (system_of form bytes) (subst IsEarly (ap (λ a. a.ending) is) early) in
+    (read.0, read.1, is ∙ read.2)

@@ -1,5 +1,5 @@
 -- How a run ends for an answer.
-use Rattle.std.proofs.Common.{◌≡◌, ◌==◌, ◌∙◌, sym, ap, subst, refl, ℕ, zero, suc, false, List, [], ◌∷◌, drop, length, Option, Some, None, Result, Ok, Err, append-nil, arith}
+use Rattle.std.proofs.Common.{◌≡◌, ◌==◌, ◌∙◌, sym, ap, subst, refl, ℕ, zero, suc, Bool, true, false, List, [], ◌∷◌, drop, length, Option, Some, None, Result, Ok, Err, append-nil, arith}
 use Rattle.std.specs.Prelude.{⊤, unwrap_or}
 use Rattle.std.specs.Io.KnownBytes.{Appends, Keeps}
 use Rattle.dz_rank.specs.Rankings.{RankingValue}
@@ -14,6 +14,7 @@ use Rattle.dz_engine.specs.Worked.{worked_tree}
 use Rattle.dz_report.specs.declared.ending.ReportEnd.{ReportEnd}
 use Rattle.dz_report.specs.declared.ending.ReportEnd.TheVariants as reports
 use Rattle.dz_jet.specs.Jets.{Values}
+use Rattle.dz_parametric.specs.Reports.{has_many_cones}
 use Rattle.dz_series.specs.SeriesReports.{SeriesEnding, done, wide, large, refused, series_report}
 use Rattle.dz_syntax.specs.declared.endings.Form.{Form}
 use Rattle.dz_syntax.specs.declared.fault.SyntaxFault.{SyntaxFault}
@@ -22,17 +23,20 @@ use Rattle.dz_syntax.specs.Systems.{Tree as Text, system_of}
 use Rattle.dz_diff.specs.Tests.{Polynomials}
 use Rattle.dz_words.specs.Words.{HasShape}
 use Rattle.dz_words.specs.declared.verbs.Verb.{Verb}
-use Rattle.dz_words.specs.declared.verbs.Verb.TheVariants.{Decompose, Check, Reduce, Prepare, Series, Sample}
+use Rattle.dz_words.specs.declared.verbs.Verb.TheVariants.{Decompose, Check, Reduce, Prepare, Series, Parametric, Sample}
 use Rattle.dz_words.specs.declared.words.Request.{Request}
-use Rattle.dz_run.specs.declared.asking.Asked.{Asked}
-use Rattle.dz_run.specs.declared.asking.Asked.TheVariants.{Reductions, Preparations}
+use Rattle.dz_report.specs.declared.asked.Asked.{Asked}
+use Rattle.dz_report.specs.declared.asked.Asked.TheVariants.{Reductions, Preparations}
 use Rattle.dz_run.specs.declared.ending.Ending.{Ending}
 use Rattle.dz_run.specs.declared.ending.Ending.TheVariants.{Done, Rejected, NotWritten, Syntax, Document, Wide, Spent, Large, ReadFault, WriteFault, WriteStuck, NoMemory, Point, TooLong}
 use Rattle.dz_run.specs.declared.system.Refused.{Refused}
 use Rattle.dz_run.specs.declared.system.Refused.TheVariants as refusals
 use Rattle.dz_run.specs.Answer.{Answer, continued, continued_at, printed, refused_ending, with_expanded}
-use Rattle.dz_run.specs.Asked.{asked, report_ending, report_of}
-use Rattle.dz_run.specs.Charted.{chain_answer, charted, report_answer as series_report_answer}
+use Rattle.dz_report.specs.Asked.{report_of}
+use Rattle.dz_run.specs.Asked.{asked, report_ending}
+use Rattle.dz_run.specs.Charted.{chain_answer, charted, chart_answer, cones_ending, report_answer as series_report_answer}
+use Rattle.dz_run.specs.declared.charting.Chart.{Chart}
+use Rattle.dz_run.specs.declared.charting.Chart.TheVariants as charts
 use Rattle.dz_run.specs.Checked.{document_told, fault_ending, verdict_ending}
 use Rattle.dz_run.specs.Decomposed.{decomposed, lines_ending, open_ending, worked_chains}
 use Rattle.dz_run.specs.Ending.{IsSilent}
@@ -163,13 +167,21 @@ series_loud printed wide = tt
 series_loud printed large = tt
 series_loud printed (refused words) = tt
 
-chain_loud : (r : RankingValue) (names : Declared) (k : ℕ) (values : Values) (order : ℕ) (s : Option State) → IsLoud (chain_answer r names k values order s).ending
-chain_loud r names k values order (Some s) = let report = series_report r names k s values order in series_loud report.printed report.ending
-chain_loud r names k values order None = tt
+cones_loud : (many : Bool) → IsLoud (cones_ending many)
+cones_loud true = tt
+cones_loud false = tt
 
-charted_orderly : (r : RankingValue) (names : Declared) (q : Request) (values : Values) (s : System) → IsOrderly (charted r names q values s)
+chart_loud : (what : Chart) (r : RankingValue) (names : Declared) (k : ℕ) (values : Values) (order : ℕ) (s : State) → IsLoud (chart_answer what r names k values order s).ending
+chart_loud charts.Series r names k values order s = let report = series_report r names k s values order in series_loud report.printed report.ending
+chart_loud charts.Parametric r names k values order s = cones_loud (has_many_cones r s)
+
+chain_loud : (what : Chart) (r : RankingValue) (names : Declared) (k : ℕ) (values : Values) (order : ℕ) (s : Option State) → IsLoud (chain_answer what r names k values order s).ending
+chain_loud what r names k values order (Some s) = chart_loud what r names k values order s
+chain_loud what r names k values order None = tt
+
+charted_orderly : (what : Chart) (r : RankingValue) (names : Declared) (q : Request) (values : Values) (s : System) → IsOrderly (charted what r names q values s)
 unfolding charted
-charted_orderly r names q values s = behind_loud r names q.budget s _ (chain_loud r names q.chain values q.order _)
+charted_orderly what r names q values s = behind_loud r names q.budget s _ (chain_loud what r names q.chain values q.order _)
 
 sampled_orderly : (seed size : ℕ) → IsOrderly (sampled seed size)
 unfolding sampled
@@ -189,7 +201,8 @@ verb_orderly Decompose q bytes text = expanded_orderly (system_answer text) _ (�
 verb_orderly Check q bytes text = document_orderly text (document_at text.names (drop text.document bytes))
 verb_orderly Reduce q bytes text = expanded_orderly (system_answer text) _ (λ s. expanded_orderly (questions_answer text) _ (asked_orderly Reductions _ text.names q.budget s))
 verb_orderly Prepare q bytes text = expanded_orderly (system_answer text) _ (λ s. expanded_orderly (questions_answer text) _ (asked_orderly Preparations _ text.names q.budget s))
-verb_orderly Series q bytes text = expanded_orderly (system_answer text) _ (charted_orderly _ text.names q text.values)
+verb_orderly Series q bytes text = expanded_orderly (system_answer text) _ (charted_orderly charts.Series _ text.names q text.values)
+verb_orderly Parametric q bytes text = expanded_orderly (system_answer text) _ (charted_orderly charts.Parametric _ text.names q text.values)
 verb_orderly Sample q bytes text = sampled_orderly q.seed q.size
 
 reading_orderly : (q : Request) (bytes : List ℕ) (r : Result Text SyntaxFault) → IsOrderly (reading_told q bytes r)

@@ -4,17 +4,19 @@ use Rattle.std.proofs.lemmas.List.Elements.{All-head, All-tail}
 use Rattle.dz_algebra.specs.Polynomial.{Polynomial}
 use Rattle.dz_algebra.specs.Size.{Refusal, wide, large}
 use Rattle.dz_algebra.specs.declared.Limit.{Limit}
-use Rattle.dz_form.specs.Values.{◌>>=◌, item_answer}
+use Rattle.dz_algebra.specs.Outcome.{◌>>=◌}
+use Rattle.dz_form.specs.Values.{item_answer}
 use Rattle.dz_form.proofs.ItemValues.{item_keepable}
-use Rattle.dz_diff.specs.Lists.{AllOf}
+use Rattle.dz_monomials.specs.Lists.{AllOf}
 use Rattle.dz_diff.specs.Tests.{Polynomials}
 use Rattle.dz_rank.specs.Rankings.{RankingValue}
 use Rattle.dz_rank.specs.declared.symbols.Symbol.{Symbol}
 use Rattle.dz_syntax.specs.declared.expression.Op.{Op}
 use Rattle.dz_syntax.specs.Postfix.{IsExpression}
 use Rattle.dz_syntax.specs.Systems.{HasExpressions, Tree as Text}
-use Rattle.dz_terms.specs.Entries.{IsKeepable}
-use Rattle.dz_terms.specs.Ranked.{symbols_under}
+use Rattle.dz_algebra.proofs.Outcomes.{bind_ok}
+use Rattle.dz_monomials.specs.Keeping.{IsKeepable}
+use Rattle.dz_monomials.specs.Ranked.{symbols_under}
 use Rattle.dz_move.specs.Root.{System}
 use Rattle.dz_move.specs.Standing.{MayStand}
 use Rattle.dz_move.specs.Systems.{system_limit}
@@ -24,11 +26,6 @@ use Rattle.dz_run.specs.declared.system.Refused.{Refused}
 use Rattle.dz_run.specs.System.{before as before_values, items_answer, numbered, or_limit, questions_answer, ranking_of, system_answer, within_limits}
 
 -- ---- the values of the items
--- an answer that goes on has a first part
-bind_ok : {A B E : Type 0} (r : Result A E) (f : A → Result B E) (y : B) → (r >>= f) ≡ Ok y → (x : A) × (r ≡ Ok x) × (f x ≡ Ok y)
-bind_ok (Ok x) f y e = (x, refl, e)
-bind_ok (Err h) f y e = absurd cc
-
 -- the value of an item among those of its group is its value
 numbered_ok : (group : Group) (n : ℕ) (r : Result (Polynomial Symbol) Refusal) (p : Polynomial Symbol) → numbered group n r ≡ Ok p → r ≡ Ok p
 numbered_ok group n (Ok q) p e = cc

@@ -5,13 +5,14 @@ use Rattle.std.proofs.lemmas.List.{map-append, drop_more}
 use Rattle.std.proofs.lemmas.List.Elements.{All-push}
 use Rattle.dz_algebra.specs.declared.Limit.{Limit}
 use Rattle.dz_algebra.specs.Polynomial.{Polynomial}
-use Rattle.dz_form.specs.Values.{◌>>=◌, item_answer}
+use Rattle.dz_algebra.specs.Outcome.{◌>>=◌}
+use Rattle.dz_form.specs.Values.{item_answer}
 use Rattle.dz_poly.proofs.Books.{means_lives, means_polynomial}
 use Rattle.dz_poly.specs.Books.{BookValue, IsKept, Lives, Means, polynomial}
 use Rattle.dz_rank.specs.declared.symbols.Symbol.{Symbol}
 use Rattle.dz_syntax.specs.declared.expression.Op.{Op}
 use Rattle.dz_syntax.specs.Systems.{Tree}
-use Rattle.dz_terms.specs.Ranked.{symbols_under}
+use Rattle.dz_monomials.specs.Ranked.{symbols_under}
 use Rattle.dz_move.specs.Root.{System}
 use Rattle.dz_diff.specs.States.{LiveAll, polynomials}
 use Rattle.dz_diff.specs.Tests.{Polynomials}

@@ -1,10 +1,12 @@
 -- Answers: what is printed, how the run ends, and what is told of a point that is refused.
-use Rattle.std.specs.Prelude.{ℕ, List, [], ◌++◌, Result, Ok, Err}
+use Rattle.std.specs.Prelude.{ℕ, List, [], ◌++◌, codes, Option, Some, None, Result, Ok, Err}
+use Rattle.std.specs.Fmt.{decimal}
+use Rattle.dz_diff.specs.State.{State}
 use Rattle.dz_diff.specs.Tests.{Polynomials}
 use Rattle.dz_syntax.specs.Systems.{Tree as Text}
 use Rattle.dz_move.specs.Root.{System}
 use Rattle.dz_run.specs.declared.ending.Ending.{Ending}
-use Rattle.dz_run.specs.declared.ending.Ending.TheVariants.{Done, Wide, Large}
+use Rattle.dz_run.specs.declared.ending.Ending.TheVariants.{Done, Wide, Large, Point}
 use Rattle.dz_run.specs.declared.system.Refused.{Refused}
 use Rattle.dz_run.specs.declared.system.Refused.TheVariants as refusals
 use Rattle.dz_run.specs.declared.told.Told.{Told}
@@ -27,6 +29,15 @@ printed output ending = record { output = output; ending = ending; point = [] }
 -- nothing is printed
 abbrev pub silent : Ending → Answer
 silent ending = printed [] ending
+
+-- the message where a chain or a point is refused, with these words
+abbrev pub point_text : List ℕ → List ℕ
+point_text words = codes "blad: point: " ++ words ++ codes "\n"
+
+-- the answer by the k-th chain, where there is one
+abbrev pub with_chain : ℕ → (State → Answer) → Option State → Answer
+with_chain k answer (Some s) = answer s
+with_chain k answer None = record { output = []; ending = Point; point = point_text (codes "there is no chain " ++ decimal k) }
 
 -- ---- one answer behind another
 abbrev pub continued_at : Ending → Answer → Answer → Answer

@@ -1,19 +1,16 @@
 -- The answers of `reduce` and `prepare`: behind the document of a complete tree, what is told of each question by each chain.
-use Rattle.std.specs.Prelude.{ℕ, List}
+use Rattle.std.specs.Prelude.{ℕ}
 use Rattle.dz_rank.specs.Rankings.{RankingValue}
-use Rattle.dz_diff.specs.Operations.{Setting, setting_of}
-use Rattle.dz_diff.specs.State.{State}
+use Rattle.dz_diff.specs.Operations.{setting_of}
 use Rattle.dz_diff.specs.Tests.{Polynomials}
 use Rattle.dz_syntax.specs.Names.{Declared}
 use Rattle.dz_move.specs.Root.{System}
 use Rattle.dz_cert.specs.Documents.{ended_lines}
-use Rattle.dz_report.specs.Preparations.{preparation_report}
-use Rattle.dz_report.specs.Reductions.{reduction_report}
+use Rattle.dz_report.specs.Asked.{report_of}
 use Rattle.dz_report.specs.Reports.{Report}
+use Rattle.dz_report.specs.declared.asked.Asked.{Asked}
 use Rattle.dz_report.specs.declared.ending.ReportEnd.{ReportEnd}
 use Rattle.dz_report.specs.declared.ending.ReportEnd.TheVariants as ends
-use Rattle.dz_run.specs.declared.asking.Asked.{Asked}
-use Rattle.dz_run.specs.declared.asking.Asked.TheVariants.{Reductions, Preparations}
 use Rattle.dz_run.specs.declared.ending.Ending.{Ending}
 use Rattle.dz_run.specs.declared.ending.Ending.TheVariants.{Done, Wide, Spent, Large}
 use Rattle.dz_run.specs.Answer.{Answer, continued, printed}
@@ -29,11 +26,6 @@ report_ending ends.Spent = Spent
 -- the lines of a report
 abbrev pub report_answer : Report → Answer
 report_answer report = printed (ended_lines report.lines) (report_ending report.ending)
-
--- what is told of questions by chains
-abbrev pub report_of : Asked → Setting → Declared → ℕ → Polynomials → List State → Report
-report_of Reductions g names budget questions chains = reduction_report g names budget questions chains
-report_of Preparations g names budget questions chains = preparation_report g names budget questions chains
 
 -- the answer to a system and questions
 unfoldable pub asked : Asked → RankingValue → Declared → ℕ → System → Polynomials → Answer

@@ -7,8 +7,7 @@ use Rattle.dz_syntax.specs.Names.{Declared}
 use Rattle.dz_syntax.specs.Systems.{Tree as Text}
 use Rattle.dz_move.specs.Root.{System}
 use Rattle.dz_tree.specs.Trees.{Tree}
-use Rattle.dz_move.specs.declared.Rule.{Rule}
-use Rattle.dz_move.specs.declared.Rule.TheVariants as rules
+use Rattle.dz_move.specs.RuleNames.{rule_name}
 use Rattle.dz_cert.specs.CertFaults.{tree_read}
 use Rattle.dz_cert.specs.Documents.{ChainTexts}
 use Rattle.dz_cert.specs.Reading.{Fault, Reading, bad_line, bytes_after, ends_early}
@@ -20,27 +19,6 @@ use Rattle.dz_run.specs.declared.ending.Ending.{Ending}
 use Rattle.dz_run.specs.declared.ending.Ending.TheVariants.{Done, Rejected, Document}
 use Rattle.dz_run.specs.Answer.{Answer, printed, silent, with_system}
 use Rattle.dz_run.specs.System.{ranking_of}
-
--- the name of a rule
-abbrev pub rule_name : Rule → List ℕ
-rule_name rules.Place = codes "place"
-rule_name rules.Step = codes "step"
-rule_name rules.Large = codes "large"
-rule_name rules.Wide = codes "wide"
-rule_name rules.Same = codes "same"
-rule_name rules.Weight = codes "weight"
-rule_name rules.Pair = codes "pair"
-rule_name rules.End = codes "end"
-rule_name rules.Symbol = codes "symbol"
-rule_name rules.Fork = codes "fork"
-rule_name rules.Closed = codes "closed"
-rule_name rules.Leader = codes "leader"
-rule_name rules.Autoreduced = codes "autoreduced"
-rule_name rules.Multiplier = codes "multiplier"
-rule_name rules.Inequation = codes "inequation"
-rule_name rules.Pairs = codes "pairs"
-rule_name rules.Coherence = codes "coherence"
-rule_name rules.Reason = codes "reason"
 
 -- the line of a verdict
 abbrev pub verdict_line : DocumentVerdict → List ℕ

@@ -6,10 +6,11 @@ use Rattle.dz_algebra.specs.Polynomial.{Polynomial}
 use Rattle.dz_algebra.specs.Size.{Refusal, wide, large}
 use Rattle.dz_algebra.specs.Symbols.{Symbols}
 use Rattle.dz_form.specs.Limits.{limit_word}
-use Rattle.dz_form.specs.Values.{◌>>=◌, item_answer}
+use Rattle.dz_algebra.specs.Outcome.{◌>>=◌}
+use Rattle.dz_form.specs.Values.{item_answer}
 use Rattle.dz_rank.specs.Rankings.{RankingValue}
 use Rattle.dz_rank.specs.declared.symbols.Symbol.{Symbol}
-use Rattle.dz_terms.specs.Ranked.{symbols_under}
+use Rattle.dz_monomials.specs.Ranked.{symbols_under}
 use Rattle.dz_syntax.specs.declared.expression.Op.{Op}
 use Rattle.dz_syntax.specs.Systems.{Tree}
 use Rattle.dz_poly.specs.Books.{BookValue, Means}

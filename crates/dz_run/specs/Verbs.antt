@@ -6,9 +6,10 @@ use Rattle.dz_syntax.specs.declared.endings.Form.TheVariants as forms
 use Rattle.dz_syntax.specs.declared.fault.SyntaxFault.{SyntaxFault}
 use Rattle.dz_syntax.specs.Systems.{Tree as Text, system_of}
 use Rattle.dz_words.specs.declared.verbs.Verb.{Verb}
-use Rattle.dz_words.specs.declared.verbs.Verb.TheVariants.{Decompose, Check, Reduce, Prepare, Series, Sample}
+use Rattle.dz_words.specs.declared.verbs.Verb.TheVariants.{Decompose, Check, Reduce, Prepare, Series, Parametric, Sample}
 use Rattle.dz_words.specs.declared.words.Request.{Request}
-use Rattle.dz_run.specs.declared.asking.Asked.TheVariants.{Reductions, Preparations}
+use Rattle.dz_report.specs.declared.asked.Asked.TheVariants.{Reductions, Preparations}
+use Rattle.dz_run.specs.declared.charting.Chart.TheVariants as charts
 use Rattle.dz_run.specs.declared.ending.Ending.TheVariants.{Syntax}
 use Rattle.dz_run.specs.Answer.{Answer, silent, with_questions, with_system}
 use Rattle.dz_run.specs.Asked.{asked}
@@ -25,6 +26,7 @@ form_of Check = Some forms.Document
 form_of Reduce = Some forms.Questions
 form_of Prepare = Some forms.Questions
 form_of Series = Some forms.Values
+form_of Parametric = Some forms.Plain
 form_of Sample = None
 
 abbrev pub has_input : Verb → Bool
@@ -36,7 +38,8 @@ verb_told Decompose q bytes text = with_system text (decomposed (ranking_of text
 verb_told Check q bytes text = document_told text (document_at text.names (drop text.document bytes))
 verb_told Reduce q bytes text = with_questions text (asked Reductions (ranking_of text) text.names q.budget)
 verb_told Prepare q bytes text = with_questions text (asked Preparations (ranking_of text) text.names q.budget)
-verb_told Series q bytes text = with_system text (charted (ranking_of text) text.names q text.values)
+verb_told Series q bytes text = with_system text (charted charts.Series (ranking_of text) text.names q text.values)
+verb_told Parametric q bytes text = with_system text (charted charts.Parametric (ranking_of text) text.names q text.values)
 verb_told Sample q bytes text = sampled q.seed q.size
 
 -- the answer for a text that was read, or for its first fault

@@ -7,8 +7,8 @@ ghost use Rattle.dz_run.specs.Answer.{answer_of};
 ghost use Rattle.dz_run.specs.System.{ranking_of};
 ghost use Rattle.dz_run.specs.Verbs.{answer_to, form_of, reading_told, verb_told};
 
-use crate::asking::{Asked, asked_told};
-use crate::charting::charted;
+use crate::asking::asked_told;
+use crate::charting::{Chart, charted};
 use crate::checking::checked;
 use crate::decomposing::decomposed;
 use crate::ending::Ending;
@@ -16,6 +16,7 @@ use crate::sampling::sampled;
 use crate::told::Told;
 use dz_poly::Book;
 use dz_rank::{RankFault, Ranking};
+use dz_report::Asked;
 use dz_syntax::{Form, SyntaxKind, SystemTree, read_system};
 use dz_words::{Request, Verb};
 use std::alloc::{AllocError, Global};
@@ -25,7 +26,7 @@ pub(crate) fn form_of(verb: Verb) -> Option<Form>
     ensures { result ≡ form_of verb }
 {
     match verb {
-        Verb::Decompose => Some(Form::Plain),
+        Verb::Decompose | Verb::Parametric => Some(Form::Plain),
         Verb::Check => Some(Form::Document),
         Verb::Reduce | Verb::Prepare => Some(Form::Questions),
         Verb::Series => Some(Form::Values),
@@ -54,7 +55,8 @@ fn verb_told(
         Verb::Check => checked(alloc, book, text, bytes),
         Verb::Reduce => asked_told(alloc, book, text, Asked::Reductions, request.budget),
         Verb::Prepare => asked_told(alloc, book, text, Asked::Preparations, request.budget),
-        Verb::Series => charted(alloc, book, text, request),
+        Verb::Series => charted(alloc, book, text, Chart::Series, request),
+        Verb::Parametric => charted(alloc, book, text, Chart::Parametric, request),
         Verb::Sample => sampled(alloc, request.seed, request.size),
     }
 }

@@ -1,34 +1,22 @@
 // The answers of `reduce` and `prepare`.
-ghost use Rattle.std.specs.Prelude.{◌≡◌, ◌≤◌, ◌++◌, All, IfOk, OnOk, map};
-ghost use Rattle.dz_cert.specs.Documents.{ended_lines};
-ghost use Rattle.dz_diff.specs.Operations.{setting_of};
-ghost use Rattle.dz_diff.specs.States.{LiveAll, StandsIn, polynomials, state_in};
+ghost use Rattle.std.specs.Prelude.{◌≡◌, ◌≤◌, IfOk};
+ghost use Rattle.dz_diff.specs.States.{LiveAll, polynomials};
 ghost use Rattle.dz_syntax.specs.Names.{signature_of};
 ghost use Rattle.dz_syntax.specs.Systems.{HasExpressions, tree_of};
 ghost use Rattle.dz_move.specs.Systems.{IsSystemIn, system_in};
 ghost use Rattle.dz_run.specs.Answer.{answer_of, with_questions};
-ghost use Rattle.dz_run.specs.Asked.{asked, report_ending, report_of};
+ghost use Rattle.dz_run.specs.Asked.{asked, report_ending};
 ghost use Rattle.dz_run.specs.System.{ranking_of};
 
 use crate::decomposing::worked_system;
 use crate::ending::Ending;
 use crate::system::{Stop, questions_of, system_of};
 use crate::told::{Told, refused_answer};
-use dz_diff::State;
 use dz_move::System;
 use dz_poly::{Book, Poly};
-use dz_report::{ReportEnd, write_preparations, write_reductions};
+use dz_report::{Asked, AskedChains, ReportEnd, write_report};
 use dz_syntax::{Names, SystemTree};
 use std::alloc::{AllocError, Global};
-
-/// What is asked of chains.
-#[derive(Clone, Copy, Debug, PartialEq, Eq)]
-pub(crate) enum Asked {
-    /// Full runs, and whether the questions are found to vanish.
-    Reductions,
-    /// Preparations.
-    Preparations,
-}
 
 /// How the run ends for a report.
 fn report_ending(end: ReportEnd) -> Ending
@@ -39,37 +27,6 @@ fn report_ending(end: ReportEnd) -> Ending
         ReportEnd::Wide => Ending::Wide,
         ReportEnd::Large => Ending::Large,
         ReportEnd::Spent => Ending::Spent,
-    }
-}
-
-/// Appends what is told of questions by chains.
-fn write_report(
-    alloc: Global,
-    book: &mut Book,
-    names: &Names,
-    what: Asked,
-    questions: &[Poly],
-    chains: &[State],
-    budget: u32,
-    into: &mut Vec<u8>,
-) -> Result<ReportEnd, AllocError>
-    requires questions { LiveAll book.old questions.now }
-    requires chains { All (λ s. StandsIn book.old s) chains.now }
-    requires signature { signature_of names.now ≡ book.old.ranking.signature }
-    ensures written { OnOk result (into.new.items ≡ into.old.items ++ ended_lines (report_of what
-        (setting_of book.old.ranking) names.now budget (polynomials book.old questions.now)
-        (map (λ s. state_in book.old s) chains.now)).lines) }
-    ensures ending { IfOk result (λ end. end ≡ (report_of what
-        (setting_of book.old.ranking) names.now budget (polynomials book.old questions.now)
-        (map (λ s. state_in book.old s) chains.now)).ending) }
-{
-    match what {
-        Asked::Reductions => {
-            write_reductions(alloc, book, names, questions, chains, budget, into)
-        }
-        Asked::Preparations => {
-            write_preparations(alloc, book, names, questions, chains, budget, into)
-        }
     }
 }
 
@@ -97,16 +54,12 @@ fn questions_told(
     if !matches!(worked.ending, Ending::Done) {
         return Ok(Told::printed(alloc, text, worked.ending));
     }
-    let end = write_report(
-        alloc,
-        book,
+    let asked = AskedChains {
         names,
-        what,
-        questions,
-        &worked.chains,
+        chains: &worked.chains,
         budget,
-        &mut text,
-    )?;
+    };
+    let end = write_report(alloc, book, &asked, what, questions, &mut text)?;
     Ok(Told::printed(alloc, text, report_ending(end)))
 }
 

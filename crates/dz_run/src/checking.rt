@@ -8,7 +8,7 @@ ghost use Rattle.dz_syntax.specs.Names.{signature_of};
 ghost use Rattle.dz_syntax.specs.Systems.{HasExpressions, tree_of};
 ghost use Rattle.dz_move.specs.Systems.{IsSystemIn, system_in};
 ghost use Rattle.dz_run.specs.Answer.{answer_of, with_system};
-ghost use Rattle.dz_run.specs.Checked.{checked_document, document_told, rule_name};
+ghost use Rattle.dz_run.specs.Checked.{checked_document, document_told};
 ghost use Rattle.dz_run.specs.Checked.{verdict_ending, verdict_line};
 ghost use Rattle.dz_run.specs.System.{ranking_of};
 
@@ -16,37 +16,11 @@ use crate::ending::Ending;
 use crate::system::{Stop, system_of};
 use crate::told::{Told, refused_answer};
 use dz_cert::{CertFault, Document, DocumentVerdict, check_document, read_document};
-use dz_move::{Rule, System};
+use dz_move::System;
 use dz_poly::Book;
 use dz_syntax::{Names, SystemTree};
 use itoa::Buffer;
 use std::alloc::{AllocError, Global};
-
-/// The name of a rule.
-fn rule_name(rule: Rule) -> &'static [u8]
-    ensures { result.now ≡ rule_name rule }
-{
-    match rule {
-        Rule::Place => b"place",
-        Rule::Step => b"step",
-        Rule::Large => b"large",
-        Rule::Wide => b"wide",
-        Rule::Same => b"same",
-        Rule::Weight => b"weight",
-        Rule::Pair => b"pair",
-        Rule::End => b"end",
-        Rule::Symbol => b"symbol",
-        Rule::Fork => b"fork",
-        Rule::Closed => b"closed",
-        Rule::Leader => b"leader",
-        Rule::Autoreduced => b"autoreduced",
-        Rule::Multiplier => b"multiplier",
-        Rule::Inequation => b"inequation",
-        Rule::Pairs => b"pairs",
-        Rule::Coherence => b"coherence",
-        Rule::Reason => b"reason",
-    }
-}
 
 /// The line of a verdict.
 fn verdict_line(alloc: Global, verdict: DocumentVerdict) -> Result<Vec<u8>, AllocError>
@@ -61,7 +35,7 @@ fn verdict_line(alloc: Global, verdict: DocumentVerdict) -> Result<Vec<u8>, Allo
             text.extend_from_slice(b"rejected tree ")?;
             text.extend_from_slice(buffer.format(place).as_bytes())?;
             text.extend_from_slice(b" ")?;
-            text.extend_from_slice(rule_name(rule))?;
+            text.extend_from_slice(rule.name())?;
         }
         DocumentVerdict::RejectedChain(number) => {
             text.extend_from_slice(b"rejected chain ")?;

@@ -1,11 +1,12 @@
 // The top call.
 ghost use Rattle.std.specs.Prelude.{◌≡◌, ◌⊎◌, ℕ, List, true, false, map, string_bytes, IfOk, IfErr};
 ghost use Rattle.dz_words.specs.Words.{IsWritten};
-ghost use Rattle.dz_words.specs.declared.verbs.Verb.TheVariants.{Decompose, Reduce};
+ghost use Rattle.dz_words.specs.declared.verbs.Verb.TheVariants.{Check, Decompose, Parametric, Reduce};
 ghost use Rattle.dz_words.specs.declared.words.Request.{Request};
 ghost use Rattle.dz_run.specs.Answer.{answer_of};
 ghost use Rattle.dz_run.specs.Ending.{IsSilent, message_of, status_of};
-ghost use Rattle.dz_run.specs.Headline.{IsDecomposed, IsReduced};
+ghost use Rattle.dz_run.specs.Headline.{HasCones, IsDecomposed, IsReduced};
+ghost use Rattle.dz_run.specs.Headline.{IsAcceptedInput, IsPartialInput, IsUnreported};
 ghost use Rattle.dz_run.specs.Run.{Ends, IsAnswered, IsReadStop, IsReading, IsTaken, IsTold};
 ghost use Rattle.dz_run.specs.Run.{Output, WritesAnswer};
 ghost use Rattle.dz_run.specs.Verbs.{has_input};
@@ -146,11 +147,35 @@ pub fn blad_run<D: Domain, S: Source, K: Sink, L: Sink>(
         → request.verb ≡ Decompose → IsDecomposed D.operations at.now request.budget
         (record { rest = S.rest input.old; faults = S.faults input.old })
         (record { rest = S.rest input.new; faults = S.faults input.new }) (K.written out.old) (K.written out.new) }
+    // Where `check` ends with status 0, the input is a system and the document of a certified tree for it. With `accepted` the tree
+    // is complete, and means what that of `decompose` does; with `partial` the system has the solutions of the chains and open ends
+    // together.
+    ensures checked { result ≡ 0 → (request : Request) → IsWritten (map string_bytes words.now) request
+        → request.verb ≡ Check → IsAcceptedInput D.operations at.now
+        (record { rest = S.rest input.old; faults = S.faults input.old })
+        (record { rest = S.rest input.new; faults = S.faults input.new }) (K.written out.old) (K.written out.new)
+        ⊎ IsPartialInput D.operations at.now (record { rest = S.rest input.old; faults = S.faults input.old })
+        (record { rest = S.rest input.new; faults = S.faults input.new }) (K.written out.old) (K.written out.new) }
     // Where `reduce` ends with status 0, its output is such a document for the system that was read, and the report of the full
     // runs on the questions by its chains. A question of which it says `vanishing yes` has value zero at every point that fits
     // and solves the system.
     ensures vanishing { result ≡ 0 → (request : Request) → IsWritten (map string_bytes words.now) request
         → request.verb ≡ Reduce → IsReduced D.operations at.now request.budget
+        (record { rest = S.rest input.old; faults = S.faults input.old })
+        (record { rest = S.rest input.new; faults = S.faults input.new }) (K.written out.old) (K.written out.new) }
+    // Where it ends with the status 4, 5 or 6, the same holds of what is told before the report stops, where there is a report: else
+    // an item is refused, or the tree has an open end.
+    ensures vanishing_told { (result ≡ 4) ⊎ ((result ≡ 5) ⊎ (result ≡ 6)) → (request : Request) → IsWritten (map string_bytes words.now) request
+        → request.verb ≡ Reduce → IsReduced D.operations at.now request.budget
+        (record { rest = S.rest input.old; faults = S.faults input.old })
+        (record { rest = S.rest input.new; faults = S.faults input.new }) (K.written out.old) (K.written out.new)
+        ⊎ IsUnreported request.budget (record { rest = S.rest input.old; faults = S.faults input.old })
+        (record { rest = S.rest input.new; faults = S.faults input.new }) (K.written out.old) (K.written out.new) }
+    // Where `parametric` ends with status 0, its output is such a document for the system that was read, and the report on the
+    // chain that was asked for: each derivative of the system, of any total order, is parametric exactly where it lies in
+    // exactly one of the cones that are printed, and else lies in none.
+    ensures described { result ≡ 0 → (request : Request) → IsWritten (map string_bytes words.now) request
+        → request.verb ≡ Parametric → HasCones request
         (record { rest = S.rest input.old; faults = S.faults input.old })
         (record { rest = S.rest input.new; faults = S.faults input.new }) (K.written out.old) (K.written out.new) }
     // Where nothing is to be written on the output, no write is called on it.

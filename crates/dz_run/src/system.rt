@@ -2,7 +2,7 @@
 ghost use Rattle.std.specs.Prelude.{◌≡◌, ◌++◌, All, IfOk, OnOk, decimal};
 ghost use Rattle.dz_form.specs.Values.{item_answer};
 ghost use Rattle.dz_poly.specs.Books.{IsKept};
-ghost use Rattle.dz_terms.specs.Ranked.{symbols_under};
+ghost use Rattle.dz_monomials.specs.Ranked.{symbols_under};
 ghost use Rattle.dz_syntax.specs.Postfix.{IsExpression};
 ghost use Rattle.dz_syntax.specs.Systems.{HasExpressions, tree_of};
 ghost use Rattle.dz_run.specs.System.{GivesAll, GivesNumbered, GivesSystem};

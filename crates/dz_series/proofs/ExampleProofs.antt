@@ -2,13 +2,14 @@
 use Rattle.std.specs.Fmt.{digits}
 use Rattle.std.proofs.Common.{refl}
 use Rattle.dz_algebra.specs.Derivation.{polynomial_derivative}
-use Rattle.dz_int.specs.Euclid.{gcd}
+use Rattle.dz_algebra.specs.Norm.{gcd}
 use Rattle.dz_algebra.specs.Polynomial.{polynomial_one}
 use Rattle.dz_algebra.specs.Size.{support, fits, refusal, operation}
 use Rattle.dz_rank.specs.Rankings.{ranking_cmp}
-use Rattle.dz_terms.specs.Ranked.{symbol_rate}
+use Rattle.dz_monomials.specs.Ranked.{symbol_rate}
 use Rattle.dz_form.specs.Texts.{symbol_text}
-use Rattle.dz_jet.specs.Jets.{value_answer, derivatives_to, jet_order, jet_answer}
+use Rattle.dz_jet.specs.Jets.{value_answer, jet_order, jet_answer}
+use Rattle.dz_parametric.specs.Orders.{derivatives_to}
 use Rattle.dz_jet.specs.Orderliness.{is_orderly}
 use Rattle.dz_series.specs.Examples.{ReportExamples, SeriesExamples}
 use Rattle.dz_series.specs.Series.{series_answer}

@@ -2,7 +2,7 @@
 use Rattle.std.specs.Prelude.{IfOk, IsErr}
 use Rattle.std.proofs.Common.{◌≡◌, inl, inr, ◌∙◌, ℕ, Bool, true, false, cond, Result, Ok, Err, refl, sym, ap, ap₂}
 use Rattle.dz_rank.specs.Rankings.{RankingValue, IsOrderly}
-use Rattle.dz_terms.specs.Ranked.{symbols_under}
+use Rattle.dz_monomials.specs.Ranked.{symbols_under}
 use Rattle.dz_diff.specs.State.{State}
 use Rattle.dz_syntax.specs.Names.{Declared}
 use Rattle.dz_jet.specs.declared.faults.JetFault.{JetFault}

@@ -19,7 +19,7 @@ use Rattle.clap.proofs.OnLiterals.{clap_on_literals}
 use Rattle.dz_words.specs.declared.options.Key.{Key}
 use Rattle.dz_words.specs.declared.options.Key.TheVariants.{Budget, Chain, Order, Seed, Size}
 use Rattle.dz_words.specs.declared.verbs.Verb.{Verb}
-use Rattle.dz_words.specs.declared.verbs.Verb.TheVariants.{Decompose, Check, Reduce, Prepare, Series, Sample}
+use Rattle.dz_words.specs.declared.verbs.Verb.TheVariants.{Decompose, Check, Reduce, Prepare, Series, Parametric, Sample}
 use Rattle.dz_words.specs.Commands.{blad_app, option_row, setting_row, verb_row}
 use Rattle.dz_words.specs.Options.{least_of, most_of, prefix_of, name_of, same_key}
 use Rattle.dz_words.specs.Verbs as verbs
@@ -218,6 +218,7 @@ verb_walked Check = refl
 verb_walked Reduce = refl
 verb_walked Prepare = refl
 verb_walked Series = refl
+verb_walked Parametric = refl
 verb_walked Sample = refl
 
 -- the verb is no fault
@@ -228,6 +229,7 @@ verb_turn Check = refl
 verb_turn Reduce = refl
 verb_turn Prepare = refl
 verb_turn Series = refl
+verb_turn Parametric = refl
 verb_turn Sample = refl
 
 -- no option has a row behind the verb

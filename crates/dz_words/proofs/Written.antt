@@ -13,7 +13,7 @@ use Rattle.clap.specs.Walk.{Row, Text, one_of, row_text}
 use Rattle.dz_words.specs.declared.options.Key.{Key}
 use Rattle.dz_words.specs.declared.options.Key.TheVariants.{Budget, Chain, Order, Seed, Size}
 use Rattle.dz_words.specs.declared.verbs.Verb.{Verb}
-use Rattle.dz_words.specs.declared.verbs.Verb.TheVariants.{Decompose, Check, Reduce, Prepare, Series, Sample}
+use Rattle.dz_words.specs.declared.verbs.Verb.TheVariants.{Decompose, Check, Reduce, Prepare, Series, Parametric, Sample}
 use Rattle.dz_words.specs.declared.words.Request.{Request}
 use Rattle.dz_words.specs.Commands.{blad_app, setting_row, verb_row}
 use Rattle.dz_words.specs.Options.{default_of, least_of, most_of, name_of, prefix_of, same_key}
@@ -217,6 +217,7 @@ verb_found Check = refl
 verb_found Reduce = refl
 verb_found Prepare = refl
 verb_found Series = refl
+verb_found Parametric = refl
 verb_found Sample = refl
 
 -- words that pass are of that verb

@@ -5,11 +5,11 @@ use Rattle.dz_words.specs.declared.options.Key.{Key}
 use Rattle.dz_words.specs.declared.options.Key.TheVariants.{Budget, Chain, Order, Seed, Size}
 use Rattle.dz_words.specs.Options.{same_key}
 use Rattle.dz_words.specs.declared.verbs.Verb.{Verb}
-use Rattle.dz_words.specs.declared.verbs.Verb.TheVariants.{Decompose, Check, Reduce, Prepare, Series, Sample}
+use Rattle.dz_words.specs.declared.verbs.Verb.TheVariants.{Decompose, Check, Reduce, Prepare, Series, Parametric, Sample}
 
 -- all verbs
 abbrev pub verbs : List Verb
-verbs = Decompose ∷ Check ∷ Reduce ∷ Prepare ∷ Series ∷ Sample ∷ []
+verbs = Decompose ∷ Check ∷ Reduce ∷ Prepare ∷ Series ∷ Parametric ∷ Sample ∷ []
 
 -- the name
 abbrev pub name_of : Verb → List ℕ
@@ -18,6 +18,7 @@ name_of Check = codes "check"
 name_of Reduce = codes "reduce"
 name_of Prepare = codes "prepare"
 name_of Series = codes "series"
+name_of Parametric = codes "parametric"
 name_of Sample = codes "sample"
 
 -- the options that it has
@@ -27,6 +28,7 @@ options_of Check = []
 options_of Reduce = Budget ∷ []
 options_of Prepare = Budget ∷ []
 options_of Series = Budget ∷ Chain ∷ Order ∷ []
+options_of Parametric = Budget ∷ Chain ∷ Order ∷ []
 options_of Sample = Seed ∷ Size ∷ []
 
 -- the verb has the option

@@ -9,7 +9,7 @@ pub enum Key {
     Budget,
     /// `chain`: the number of a chain, counted from 1.
     Chain,
-    /// `order`: the order of a series.
+    /// `order`: the total order up to which derivatives are told.
     Order,
     /// `seed`: where the draws of a sample begin.
     Seed,

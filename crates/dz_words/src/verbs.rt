@@ -19,6 +19,8 @@ pub enum Verb {
     Prepare,
     /// `series`: compute a series at values.
     Series,
+    /// `parametric`: list what a chain leaves free.
+    Parametric,
     /// `sample`: make and split a system from a seed.
     Sample,
 }
@@ -37,6 +39,7 @@ impl Verb {
             Verb::Reduce => "reduce",
             Verb::Prepare => "prepare",
             Verb::Series => "series",
+            Verb::Parametric => "parametric",
             Verb::Sample => "sample",
         }
     }
@@ -51,18 +54,20 @@ impl Verb {
             Verb::Reduce => &[Key::Budget],
             Verb::Prepare => &[Key::Budget],
             Verb::Series => &[Key::Budget, Key::Chain, Key::Order],
+            Verb::Parametric => &[Key::Budget, Key::Chain, Key::Order],
             Verb::Sample => &[Key::Seed, Key::Size],
         }
     }
 }
 
 // All verbs.
-const VERBS: [Verb; 6] = [
+const VERBS: [Verb; 7] = [
     Verb::Decompose,
     Verb::Check,
     Verb::Reduce,
     Verb::Prepare,
     Verb::Series,
+    Verb::Parametric,
     Verb::Sample,
 ];
 

@@ -12,6 +12,7 @@ fn verb_name(verb: Verb) -> &'static [u8] {
         Verb::Reduce => b"reduce",
         Verb::Prepare => b"prepare",
         Verb::Series => b"series",
+        Verb::Parametric => b"parametric",
         Verb::Sample => b"sample",
     }
 }

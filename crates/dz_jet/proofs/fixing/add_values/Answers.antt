@@ -4,7 +4,7 @@ use Rattle.dz_poly.proofs.Books.{kept_trans, lives_on}
 use Rattle.dz_rank.specs.Symbols.{BelongsTo}
 use Rattle.dz_rank.specs.declared.symbols.Symbol.{Symbol}
 use Rattle.dz_rank.specs.declared.symbols.Symbol.TheVariants.{Independent}
-use Rattle.dz_terms.specs.Ranked.{symbols_under}
+use Rattle.dz_monomials.specs.Ranked.{symbols_under}
 use Rattle.dz_diff.specs.Operations.{setting_of}
 use Rattle.dz_diff.specs.States.{LiveAll, polynomials, state_in}
 use Rattle.dz_step.proofs.Searches.{drop_here}

@@ -1,7 +1,7 @@
 use Rattle.std.proofs.Common.{◌∙◌, ap, sym, arith}
 use Rattle.std.specs.Prelude.{pos}
 use Rattle.dz_poly.specs.Books.{polynomial}
-use Rattle.dz_terms.specs.Ranked.{symbols_under}
+use Rattle.dz_monomials.specs.Ranked.{symbols_under}
 use Rattle.dz_jet.specs.Jets.{value_from, value_in}
 use Rattle.dz_jet.proofs.FoldSteps.{made_whole, term_stops, term_goes_on, terms_end}
 use Rattle.dz_jet.proofs.folds.evaluate.Goals as goal

@@ -3,7 +3,7 @@ use Rattle.std.specs.Prelude.{pos}
 use Rattle.dz_algebra.specs.Parts.{coefficient_of}
 use Rattle.dz_poly.specs.Books.{polynomial}
 use Rattle.dz_rank.specs.Rankings.{ranking_cmp}
-use Rattle.dz_terms.specs.Ranked.{symbols_under}
+use Rattle.dz_monomials.specs.Ranked.{symbols_under}
 use Rattle.dz_jet.specs.Jets.{value_from, value_in}
 use Rattle.dz_jet.proofs.FoldSteps.{made_whole, rest_ends, rest_goes_on, rest_passed, rest_stops}
 use Rattle.dz_jet.proofs.folds.evaluate_without.Goals as goal

@@ -1,6 +1,6 @@
 use Rattle.std.proofs.Common.{◌≡◌, drop}
 use Rattle.dz_poly.specs.Books.{polynomial, term_at}
-use Rattle.dz_terms.specs.Ranked.{symbols_under}
+use Rattle.dz_monomials.specs.Ranked.{symbols_under}
 use Rattle.dz_jet.specs.Jets.{term_value, value_in}
 use Rattle.dz_jet.proofs.folds.multiply_by_powers.Given as goal
 

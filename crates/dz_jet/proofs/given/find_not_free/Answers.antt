@@ -1,8 +1,9 @@
 use Rattle.std.proofs.lemmas.Grind.{common_steps}
 use Rattle.std.proofs.Common.{rules, ◌≡◌, ◌≤◌, ◌++◌, true, false, subst, arith, slice_index_or}
-use Rattle.dz_terms.specs.Ranked.{symbols_under}
+use Rattle.dz_monomials.specs.Ranked.{symbols_under}
 use Rattle.dz_diff.specs.States.{state_in}
-use Rattle.dz_jet.specs.Jets.{derivatives_to, independents_of, is_needed}
+use Rattle.dz_jet.specs.Jets.{independents_of, is_needed}
+use Rattle.dz_parametric.specs.Orders.{derivatives_to}
 use Rattle.dz_jet.proofs.GivenAnswers.{free_here, not_free_here}
 use Rattle.dz_jet.proofs.Needed.{fixed, free, high}
 use Rattle.dz_jet.proofs.given.find_not_free.Goals as goal

@@ -1,6 +1,7 @@
 use Rattle.std.proofs.Common.{◌≡◌, ◌++◌, drop}
 use Rattle.dz_diff.specs.States.{state_in}
-use Rattle.dz_jet.specs.Jets.{derivatives_to, independents_of}
+use Rattle.dz_jet.specs.Jets.{independents_of}
+use Rattle.dz_parametric.specs.Orders.{derivatives_to}
 use Rattle.dz_jet.specs.Tables.{first_not_free}
 use Rattle.dz_jet.proofs.given.find_not_free.Given as goal
 

@@ -3,9 +3,10 @@ use Rattle.std.proofs.Common.{◌≡◌, ◌≤◌, ◌∙◌, All, map, ap, sym
 use Rattle.std.proofs.lemmas.Result.{err_from_is_err_and}
 use Rattle.dz_rank.specs.Symbols.{HasFourExponents}
 use Rattle.dz_rank.specs.declared.symbols.Symbol.{Symbol}
-use Rattle.dz_terms.specs.Ranked.{symbols_under}
+use Rattle.dz_monomials.specs.Ranked.{symbols_under}
 use Rattle.dz_diff.specs.States.{state_in}
-use Rattle.dz_jet.specs.Jets.{Values, derivatives_to, given_to, is_needed, value_in}
+use Rattle.dz_jet.specs.Jets.{Values, given_to, is_needed, value_in}
+use Rattle.dz_parametric.specs.Orders.{derivatives_to}
 use Rattle.dz_jet.specs.Tables.{HaveOneValue, IsTable, first_not_free}
 use Rattle.dz_jet.proofs.Found.{one_value_sorted, same_given}
 use Rattle.dz_jet.proofs.GivenAnswers.{all_given, derivatives_proper, derivatives_rise, distinct_one, missing_fault, not_free_fault, symbols_have_four}

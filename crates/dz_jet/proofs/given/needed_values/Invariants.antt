@@ -1,6 +1,6 @@
 use Rattle.std.specs.List.{filter}
 use Rattle.std.proofs.Common.{◌≡◌, drop, map, take}
-use Rattle.dz_terms.specs.Ranked.{symbols_under}
+use Rattle.dz_monomials.specs.Ranked.{symbols_under}
 use Rattle.dz_diff.specs.States.{state_in}
 use Rattle.dz_jet.specs.Jets.{is_needed, value_in}
 use Rattle.dz_jet.specs.Tables.{first_missing}

@@ -1,5 +1,5 @@
 use Rattle.std.proofs.Common.{◌≡◌, drop, suc}
-use Rattle.dz_terms.specs.Ranked.{symbols_under}
+use Rattle.dz_monomials.specs.Ranked.{symbols_under}
 use Rattle.dz_diff.specs.States.{polynomials}
 use Rattle.dz_jet.specs.Jets.{leading_to}
 use Rattle.dz_jet.proofs.leading.leading_to.Given as goal

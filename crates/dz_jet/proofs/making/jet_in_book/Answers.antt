@@ -90,8 +90,8 @@ returns-in_err-add_values-clause-fault c =
     let p = err_from_is_err_and c.from_residual-in_err-add_values.result c.from_residual-in_err-add_values.ensures.1 in
     rw (p.1, p.2) (values_stop passed cut c.in_ok-separants.ensures.kept c.requires.stands c.as_slice-5.ensures.value c.in_err-add_values.field-0.0 c.in_err-add_values.ensures.fault)
 
-pub returns-clause-values : goal.returns-clause-values
-returns-clause-values c =
+pub returns-clause-jet : goal.returns-clause-jet
+returns-clause-jet c =
     let all = listed c.args.book.now c.args.chain.now c.args.order c.ranking.ensures c.jet_order-order.ensures c.in_ok-symbols.ensures in
     let given = given_passes c.args.book.now c.args.chain.now c.args.values.now c.args.order (c.as_slice.ensures.value ∙ all) c.in_ok-known.ensures.table c.in_ok-known.ensures.same c.in_ok-known.ensures.given in
     let tested = equations_pass given c.as_slice-2.ensures.value c.equations.ensures.items (sym c.in_ok-test_equations.was ∙ c.test_equations.ensures) in
@@ -99,4 +99,7 @@ returns-clause-values c =
     let passed = inequations_pass multiplied c.in_ok-separants.ensures.kept c.requires.stands c.as_slice-4.ensures.value c.inequations.ensures.items (sym c.in_ok-test_inequations.was ∙ c.test_inequations.ensures) in
     let e = independents_are c.signature-independents.ensures.value (c.ranking-2.ensures ∙ c.in_ok-separants.ensures.kept.ranking) in
     let cut = cut_here c.args.book.now c.args.chain.now c.args.order c.in_ok-known.known.items c.in_ok-jet.jet.items c.deref.result.now c.deref-2.result.now c.signature-independents.result.independents e c.in_ok-jet.ensures.items c.deref.ensures.value (c.deref-2.ensures.value ∙ all) in
-    values_here passed cut c.in_ok-separants.ensures.kept c.requires.stands c.as_slice-5.ensures.value c.add_values.new.values.items c.in_ok-add_values.ensures.values ∙ ap (λ j. Ok j.values) (sym c.new.ensures)
+    record {
+      values = values_here passed cut c.in_ok-separants.ensures.kept c.requires.stands c.as_slice-5.ensures.value c.add_values.new.values.items c.in_ok-add_values.ensures.values ∙ ap (λ j. Ok j.values) (sym c.new.ensures);
+      order = ap (λ j. j.order) c.new.ensures ∙ c.jet_order-order.ensures;
+    }

@@ -6,8 +6,8 @@ use Rattle.dz_poly.specs.Books.{Lives, polynomial}
 use Rattle.dz_poly.proofs.Books.{kept_polynomial, kept_trans, lives_on}
 use Rattle.dz_rank.specs.Rankings.{RankingValue}
 use Rattle.dz_rank.specs.declared.symbols.Symbol.{Symbol}
-use Rattle.dz_terms.specs.Ranked.{symbols_under}
-use Rattle.dz_diff.specs.Outcome.{◌>>=◌}
+use Rattle.dz_monomials.specs.Ranked.{symbols_under}
+use Rattle.dz_algebra.specs.Outcome.{◌>>=◌}
 use Rattle.dz_diff.specs.States.{polynomials}
 use Rattle.dz_step.proofs.DivisorTables.{polynomial_here, polynomials_length}
 use Rattle.dz_jet.specs.Jets.{test_all_multipliers, test_multipliers, value_in}

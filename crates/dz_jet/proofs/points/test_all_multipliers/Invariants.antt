@@ -1,7 +1,7 @@
 use Rattle.std.proofs.Common.{◌≡◌, ◌+◌, ◌++◌, Ok, drop}
 use Rattle.dz_poly.specs.Books.{IsKept}
-use Rattle.dz_terms.specs.Ranked.{symbols_under}
-use Rattle.dz_diff.specs.Outcome.{◌>>=◌}
+use Rattle.dz_monomials.specs.Ranked.{symbols_under}
+use Rattle.dz_algebra.specs.Outcome.{◌>>=◌}
 use Rattle.dz_diff.specs.States.{polynomials}
 use Rattle.dz_jet.specs.Jets.{test_all_multipliers, value_in}
 use Rattle.dz_jet.proofs.points.test_all_multipliers.Given as goal

@@ -3,7 +3,7 @@ use mir.Syntax.{w128}
 use mir.Val.{of_z}
 use Rattle.std.proofs.lemmas.Result.{err_from_is_err_and}
 use Rattle.dz_poly.specs.Books.{polynomial}
-use Rattle.dz_terms.specs.Ranked.{symbols_under}
+use Rattle.dz_monomials.specs.Ranked.{symbols_under}
 use Rattle.dz_diff.specs.States.{polynomials}
 use Rattle.dz_step.proofs.DivisorTables.{polynomial_here, polynomials_length}
 use Rattle.dz_jet.specs.declared.faults.At.TheVariants as ats

@@ -1,5 +1,5 @@
 use Rattle.std.proofs.Common.{◌≡◌, ◌+◌, drop}
-use Rattle.dz_terms.specs.Ranked.{symbols_under}
+use Rattle.dz_monomials.specs.Ranked.{symbols_under}
 use Rattle.dz_diff.specs.States.{polynomials}
 use Rattle.dz_jet.specs.Jets.{test_inequations, value_in}
 use Rattle.dz_jet.proofs.points.test_inequations.Given as goal

@@ -4,7 +4,7 @@ use Rattle.dz_algebra.specs.Parts.{is_ground}
 use Rattle.dz_algebra.specs.Size.{separant_answer}
 use Rattle.dz_poly.specs.Books.{Gives, polynomial}
 use Rattle.dz_poly.proofs.Books.{kept_polynomial}
-use Rattle.dz_terms.specs.Ranked.{symbols_under}
+use Rattle.dz_monomials.specs.Ranked.{symbols_under}
 use Rattle.dz_diff.proofs.Leading.{led_not_ground}
 use Rattle.dz_jet.specs.Jets.{value_in}
 use Rattle.dz_jet.proofs.FoldSteps.{made_whole}

@@ -1,5 +1,5 @@
 use Rattle.dz_poly.specs.Books.{polynomial}
-use Rattle.dz_terms.specs.Ranked.{symbols_under}
+use Rattle.dz_monomials.specs.Ranked.{symbols_under}
 use Rattle.dz_jet.specs.declared.faults.JetFault.TheVariants as faults
 use Rattle.dz_jet.specs.Jets.{value_in}
 use Rattle.dz_jet.proofs.PointSteps.{value_none, value_some}

@@ -1,5 +1,5 @@
 use Rattle.std.proofs.Common.{◌∙◌, arith, ap, subst, sym}
-use Rattle.dz_terms.specs.Ranked.{symbols_under}
+use Rattle.dz_monomials.specs.Ranked.{symbols_under}
 use Rattle.dz_diff.specs.States.{LiveAll, polynomials}
 use Rattle.dz_jet.specs.Jets.{jet_order, order_of_all}
 use Rattle.dz_jet.proofs.OrderFolds.{all_low}

@@ -1,6 +1,6 @@
 use Rattle.std.proofs.Common.{◌≡◌, drop}
 use Rattle.dz_poly.specs.Books.{polynomial}
-use Rattle.dz_terms.specs.Ranked.{symbols_under}
+use Rattle.dz_monomials.specs.Ranked.{symbols_under}
 use Rattle.dz_jet.specs.Jets.{order_of}
 use Rattle.dz_jet.proofs.symbols.order_of.Given as goal
 

@@ -1,6 +1,6 @@
 use Rattle.std.proofs.Common.{◌∙◌, ap, max}
 use Rattle.dz_poly.specs.Books.{polynomial, term_at}
-use Rattle.dz_terms.specs.Ranked.{symbols_under}
+use Rattle.dz_monomials.specs.Ranked.{symbols_under}
 use Rattle.dz_jet.proofs.OrderFolds.{power_order}
 use Rattle.dz_jet.proofs.symbols.order_of_term.Goals as goal
 

@@ -1,6 +1,6 @@
 use Rattle.std.proofs.Common.{◌≡◌, drop}
 use Rattle.dz_poly.specs.Books.{polynomial, term_at}
-use Rattle.dz_terms.specs.Ranked.{symbols_under}
+use Rattle.dz_monomials.specs.Ranked.{symbols_under}
 use Rattle.dz_jet.specs.Jets.{order_of_monomial}
 use Rattle.dz_jet.proofs.symbols.order_of_term.Given as goal
 

@@ -1,5 +1,5 @@
 use Rattle.std.proofs.Common.{rules, ◌-◌, ◌∙◌, ◌≤◌, drop, length, take, subst, sym, ap, arith}
-use Rattle.dz_terms.specs.Ranked.{symbols_under}
+use Rattle.dz_monomials.specs.Ranked.{symbols_under}
 use Rattle.dz_jet.specs.Jets.{given_to}
 use Rattle.dz_jet.specs.Tables.{AreSorted, HaveOneValue}
 use Rattle.dz_jet.proofs.TableLists.{behind_single, behind_sorted, derivative_is, given_behind_independents, independent_given, no_independent, table_length}

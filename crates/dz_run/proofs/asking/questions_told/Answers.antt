@@ -1,4 +1,5 @@
-use Rattle.std.proofs.Common.{◌≡◌, ◌∙◌, ap}
+use Rattle.std.proofs.Common.{◌≡◌, ◌∙◌, ap, sym}
+use Rattle.dz_rank.specs.Rankings.{RankingValue}
 use Rattle.dz_move.specs.Systems.{system_in}
 use Rattle.dz_run.specs.Asked.{report_ending}
 use Rattle.dz_run.specs.declared.ending.Ending.TheVariants.{Done}
@@ -13,3 +14,7 @@ returns c =
     c.args.questions.now c.requires.questions c.in_ok-worked.worked.document.items c.in_ok-worked.worked.ending c.in_ok-worked.ensures.answer done
     c.deref.result.now (rw c.deref.ensures.value c.in_ok-worked.ensures.chains)
     c.write_report.new.into.items c.in_ok-end.ensures.written c.report_ending.result (c.report_ending.ensures ∙ ap report_ending c.in_ok-end.ensures.ending)
+
+pub write_report-requires-clause-asked : goal.write_report-requires-clause-asked
+write_report-requires-clause-asked c =
+    (rw c.deref.ensures.value c.in_ok-worked.ensures.stand, c.requires.signature ∙ ap (λ (r : RankingValue). r.signature) (sym c.in_ok-worked.ensures.kept.ranking))

@@ -2,10 +2,10 @@ use Rattle.std.proofs.Common.{◌≡◌, ◌∙◌, ◌++◌, ap, sym, List, ℕ
 use Rattle.dz_series.specs.SeriesEnds.{ending_of}
 use Rattle.dz_series.specs.SeriesReports.{refused}
 use Rattle.dz_move.proofs.MemberLists.{if_ok}
-use Rattle.dz_run.specs.Answer.{answer_of, continued, printed}
-use Rattle.dz_run.specs.Charted.{point_text, report_answer}
+use Rattle.dz_run.specs.Answer.{answer_of, continued, point_text, printed}
+use Rattle.dz_run.specs.Charted.{report_answer}
 use Rattle.dz_run.specs.declared.ending.Ending.TheVariants.{Done, Point}
-use Rattle.dz_run.proofs.SeriesAnswers.{refused_is}
+use Rattle.dz_run.proofs.ChartAnswers.{refused_is}
 use Rattle.dz_run.proofs.charting.end_told.Goals as goal
 
 pub returns-in-Refused : goal.returns-in-Refused

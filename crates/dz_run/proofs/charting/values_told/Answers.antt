@@ -5,7 +5,7 @@ use Rattle.dz_move.specs.Systems.{system_in}
 use Rattle.dz_run.specs.Answer.{answer_of, continued, printed}
 use Rattle.dz_run.specs.Charted.{chain_answer, charted}
 use Rattle.dz_run.specs.declared.ending.Ending.TheVariants.{Done}
-use Rattle.dz_run.proofs.SeriesAnswers.{values_are}
+use Rattle.dz_run.proofs.ChartAnswers.{values_are}
 use Rattle.dz_run.proofs.charting.values_told.Goals.{in-Done, in_default}
 use Rattle.dz_run.proofs.charting.values_told.Goals as goal
 
@@ -15,8 +15,8 @@ returns c =
     let new = c.worked_system.new.book in
     let q = c.args.request in
     let system = system_in c.args.book.now c.args.system.now in
-    if_ok (λ told. answer_of told ≡ continued (printed c.in_ok-worked.worked.document.items Done) (chain_answer new.ranking c.args.names.now q.chain c.args.values.now q.order (slice_get (map (λ s. state_in new s) c.deref.result.now) (q.chain - 1))))
-    (λ told. answer_of told ≡ charted c.args.book.now.ranking c.args.names.now q c.args.values.now system) c.chain_told.result
-    (λ told e. e ∙ values_are c.args.book.now new c.in_ok-worked.ensures.kept c.args.names.now q c.args.values.now system c.in_ok-worked.worked.document.items c.in_ok-worked.worked.ending
+    if_ok (λ told. answer_of told ≡ continued (printed c.in_ok-worked.worked.document.items Done) (chain_answer c.args.what new.ranking c.args.names.now q.chain c.args.values.now q.order (slice_get (map (λ s. state_in new s) c.deref.result.now) (q.chain - 1))))
+    (λ told. answer_of told ≡ charted c.args.what c.args.book.now.ranking c.args.names.now q c.args.values.now system) c.chain_told.result
+    (λ told e. e ∙ values_are c.args.what c.args.book.now new c.in_ok-worked.ensures.kept c.args.names.now q c.args.values.now system c.in_ok-worked.worked.document.items c.in_ok-worked.worked.ending
     c.in_ok-worked.ensures.answer done c.deref.result.now (rw c.deref.ensures.value c.in_ok-worked.ensures.chains))
     c.chain_told.ensures

@@ -1,6 +1,6 @@
 use Rattle.std.proofs.Common.{List, ◌+◌, Ok, subst}
 use Rattle.dz_form.specs.Values.{item_answer}
-use Rattle.dz_terms.specs.Ranked.{symbols_under}
+use Rattle.dz_monomials.specs.Ranked.{symbols_under}
 use Rattle.dz_poly.proofs.Books.{kept_trans}
 use Rattle.dz_syntax.specs.declared.expression.Op.{Op}
 use Rattle.dz_run.specs.System.{GivesNumbered, numbered}

@@ -1,6 +1,6 @@
 use Rattle.std.proofs.Common.{◌≡◌, drop}
 use Rattle.dz_poly.specs.Books.{IsKept}
-use Rattle.dz_terms.specs.Ranked.{symbols_under}
+use Rattle.dz_monomials.specs.Ranked.{symbols_under}
 use Rattle.dz_diff.specs.States.{LiveAll, polynomials}
 use Rattle.dz_run.specs.System.{behind, items_answer}
 use Rattle.dz_run.proofs.system.expand_items.Given as goal

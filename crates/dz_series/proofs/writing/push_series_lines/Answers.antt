@@ -1,6 +1,6 @@
 use Rattle.std.proofs.Common.{refl}
 use Rattle.dz_series.specs.Series.{series_line}
-use Rattle.dz_jet.proofs.Listings.{listed_more}
+use Rattle.dz_parametric.proofs.Listings.{listed_more}
 use Rattle.dz_series.proofs.writing.push_series_lines.Goals as goal
 
 pub dependents-preserved : goal.dependents-preserved

@@ -1,0 +1,12 @@
+pub mod Members
+pub mod OrderLists
+pub mod SortedSymbols
+pub mod Listings
+pub mod Splits
+pub mod Around
+pub mod ConeLaws
+pub mod Chosen
+pub mod UnledLists
+pub mod Described
+pub mod ExampleProofs
+pub mod Reported

@@ -1,0 +1,9 @@
+pub mod Parametric
+pub mod Cones
+pub mod Dividing
+pub mod Orders
+pub mod Choosing
+pub mod Laws
+pub mod Examples
+pub mod Reports
+pub mod Ends
