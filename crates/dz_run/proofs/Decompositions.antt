@@ -1,5 +1,5 @@
 -- What runs of `decompose` and `reduce` that are done mean at a point.
-use Rattle.std.proofs.Common.{◌≡◌, ◌⊎◌, inl, inr, ◌≤◌, List, [], ◌++◌, ℕ, Bool, true, Ok, ap, refl, subst, sym, ◌∙◌}
+use Rattle.std.proofs.Common.{◌≡◌, ◌⊎◌, inl, inr, ◌≤◌, List, [], ◌++◌, ℕ, Bool, true, false, Some, Ok, ap, refl, subst, sym, ◌∙◌}
 use Rattle.std.specs.Io.KnownBytes.{Appends}
 use Rattle.dz_algebra.specs.Domain.{DomainLaws, Operations}
 use Rattle.dz_algebra.specs.Polynomial.{Polynomial}
@@ -23,7 +23,6 @@ use Rattle.dz_move.proofs.KeepableStates.{keepables_over}
 use Rattle.dz_move.proofs.KeptMembers.{all_give}
 use Rattle.dz_rank.specs.Rankings.{RankingValue}
 use Rattle.dz_rank.specs.declared.symbols.Symbol.{Symbol}
-use Rattle.dz_report.specs.Reductions.{reduction_report}
 use Rattle.dz_syntax.specs.declared.endings.Form.{Form}
 use Rattle.dz_syntax.specs.declared.endings.Form.TheVariants.{Plain, Questions}
 use Rattle.dz_syntax.specs.Systems.{Tree as Text, system_of}
@@ -35,16 +34,17 @@ use Rattle.dz_engine.proofs.OrderLaws.{order_laws}
 use Rattle.dz_engine.proofs.WorkedTrees.{worked_laws}
 use Rattle.dz_words.specs.Words.{IsWritten}
 use Rattle.dz_words.specs.declared.verbs.Verb.{Verb}
-use Rattle.dz_words.specs.declared.verbs.Verb.TheVariants.{Decompose, Reduce}
+use Rattle.dz_words.specs.declared.verbs.Verb.TheVariants.{Decompose, Prepare, Reduce}
 use Rattle.dz_words.specs.declared.words.Request.{Request}
 use Rattle.dz_words.proofs.Written.{in_range, one_asked}
 use Rattle.dz_zeros.specs.Runs.{RunsToZero as HasRunToZero}
 use Rattle.dz_zeros.specs.Solves.{HasValueZero, Solves}
 use Rattle.dz_zeros.proofs.ZeroSetLaws.{zero_sets}
-use Rattle.dz_report.specs.declared.asked.Asked.TheVariants.{Reductions}
+use Rattle.dz_report.specs.declared.asked.Asked.{Asked}
+use Rattle.dz_report.specs.declared.asked.Asked.TheVariants.{Preparations, Reductions}
 use Rattle.dz_run.specs.declared.ending.Ending.{Ending}
 use Rattle.dz_run.specs.declared.ending.Ending.TheVariants.{Done, Rejected, NotWritten, Syntax, Document, Wide, Spent, Large, ReadFault, WriteFault, WriteStuck, NoMemory, Point, TooLong}
-use Rattle.dz_run.specs.Answer.{Answer}
+use Rattle.dz_run.specs.Answer.{Answer, with_expanded, with_questions}
 use Rattle.dz_report.specs.Asked.{report_of}
 use Rattle.dz_run.specs.Asked.{asked, report_answer}
 use Rattle.dz_run.specs.Decomposed.{decomposed, tree_chains, worked_chains}
@@ -52,8 +52,8 @@ use Rattle.dz_run.specs.Ending.{status_of}
 use Rattle.dz_run.specs.Headline.{IsDecomposed, IsReduced}
 use Rattle.dz_run.specs.Run.{Ends, Input, IsGiven, IsRead, IsTaken, Output}
 use Rattle.dz_run.specs.System.{questions_answer, ranking_of, system_answer}
-use Rattle.dz_run.specs.Verbs.{answer_to, has_input}
-use Rattle.dz_run.proofs.Completeness.{done_is_complete}
+use Rattle.dz_run.specs.Verbs.{answer_to, form_of, has_input, verb_told}
+use Rattle.dz_run.proofs.Completeness.{complete_is_done, done_is_complete}
 use Rattle.dz_run.proofs.DoneAnswers.{continued_or, done_expanded, told_done}
 use Rattle.dz_run.proofs.ItemsStand.{questions_stand, system_stands}
 
@@ -69,25 +69,46 @@ pub record HasTree (text : Text) (budget : ℕ) (system : System) : Type 0 where
   pub complete : all_chains (ends_in (ends_of (setting_of (ranking_of text)) system (tree_of text budget system))) ≡ true
   pub chains : AllOf (IsChain (setting_of (ranking_of text))) (tree_chains (ranking_of text) system (tree_of text budget system))
 
--- the answer of `decompose` is its document where it is done
-pub has_tree : (form : Form) (bytes : List ℕ) (text : Text) (budget : ℕ) (system : System) → system_of form bytes ≡ Ok text → budget ≤ 20000000 → system_answer text ≡ Ok system
-    → (decomposed (ranking_of text) text.names budget system).ending ≡ Done → HasTree text budget system
-unfolding decomposed
-has_tree form bytes text budget system spelled most expanded done =
+-- A text was read and spells a system, whose worked tree is certified.
+pub record HasWorked (text : Text) (budget : ℕ) (system : System) : Type 0 where
+  pub over : AreOver (ranking_of text) system.equations system.inequations
+  pub certified : IsCertified (setting_of (ranking_of text)) system (tree_of text budget system)
+  pub chains : AllOf (IsChain (setting_of (ranking_of text))) (tree_chains (ranking_of text) system (tree_of text budget system))
+
+pub has_worked : (form : Form) (bytes : List ℕ) (text : Text) (budget : ℕ) (system : System) → system_of form bytes ≡ Ok text → budget ≤ 20000000 → system_answer text ≡ Ok system → HasWorked text budget system
+has_worked form bytes text budget system spelled most expanded =
     let r : RankingValue = ranking_of text in
     let ranked = system_ranked form bytes text spelled in
     let stands = system_stands text system (system_expressions form bytes text spelled) expanded in
     let worked : IsWorked (setting_of r) system (tree_of text budget system) = (order_laws r ranked.few_independents ranked.few_dependents budget most).is_there system stands.0 stands.1 in
     let certified = (worked_laws (setting_of r)).certified system (tree_of text budget system) worked in
-    record {
-      over = over_of ranked.few_independents stands.0;
-      certified = certified;
-      complete = done_is_complete (setting_of r) system (tree_of text budget system) certified done;
-      chains = chains_are (setting_of r) system (tree_of text budget system) certified;
-    }
+    record { over = over_of ranked.few_independents stands.0; certified = certified; chains = chains_are (setting_of r) system (tree_of text budget system) certified }
   where
     over_of : {r : RankingValue} {s : System} → r.signature.independents ≤ 4 → MayStand r s.equations s.inequations → AreOver r s.equations s.inequations
     over_of {r} {s} few h = record { equations_over = keepables_over r few s.equations h.equations_keepable; inequations_over = keepables_over r few s.inequations h.inequations_keepable }
+
+-- the answer of `decompose` is its document where it is done
+pub has_tree : (form : Form) (bytes : List ℕ) (text : Text) (budget : ℕ) (system : System) → system_of form bytes ≡ Ok text → budget ≤ 20000000 → system_answer text ≡ Ok system
+    → (decomposed (ranking_of text) text.names budget system).ending ≡ Done → HasTree text budget system
+unfolding decomposed
+has_tree form bytes text budget system spelled most expanded done =
+    let worked = has_worked form bytes text budget system spelled most expanded in
+    record {
+      over = worked.over;
+      certified = worked.certified;
+      complete = done_is_complete (setting_of (ranking_of text)) system (tree_of text budget system) worked.certified done;
+      chains = worked.chains;
+    }
+
+-- and where it is not, some end of the tree is open
+pub is_open : (text : Text) (budget : ℕ) (system : System) → HasWorked text budget system → ((decomposed (ranking_of text) text.names budget system).ending ≡ Done → ⊥)
+    → all_chains (ends_in (ends_of (setting_of (ranking_of text)) system (tree_of text budget system))) ≡ false
+unfolding decomposed
+is_open text budget system worked rest = by (all_chains (ends_in (ends_of (setting_of (ranking_of text)) system (tree_of text budget system)))) refl
+  where
+    by : (all : Bool) → all_chains (ends_in (ends_of (setting_of (ranking_of text)) system (tree_of text budget system))) ≡ all → all ≡ false
+    by true e = absurd (rest (complete_is_done (setting_of (ranking_of text)) system (tree_of text budget system) worked.certified e))
+    by false e = refl
 
 -- what is printed of it
 pub document_is : (text : Text) (budget : ℕ) (system : System) → (decomposed (ranking_of text) text.names budget system).output ≡ document_of (setting_of (ranking_of text)) text.names system (tree_of text budget system)
@@ -109,51 +130,72 @@ answer_made q verb bytes done =
     let made = done_expanded (system_answer told.0) (decomposed (ranking_of told.0) told.0.names q.budget) (sym (ap (λ a. a.ending) told.2) ∙ done) in
     record { text = told.0; system = made.0; spelled = told.1; expanded = made.1; is = told.2 ∙ made.2 }
 
--- an answer of `reduce` to questions
-pub record IsAsked (budget : ℕ) (bytes : List ℕ) (answer : Answer) : Type 0 where
+-- the verb that asks this
+abbrev pub verb_of : Asked → Verb
+verb_of Reductions = Reduce
+verb_of Preparations = Prepare
+
+-- it has an input, with questions
+pub asks : (what : Asked) → form_of (verb_of what) ≡ Some Questions
+asks Reductions = refl
+asks Preparations = refl
+
+pub asks_input : (what : Asked) → has_input (verb_of what) ≡ true
+asks_input Reductions = refl
+asks_input Preparations = refl
+
+-- and its answer is that to the questions
+pub asked_told : (what : Asked) (q : Request) (bytes : List ℕ) (text : Text) → verb_told (verb_of what) q bytes text ≡ with_questions text (asked what (ranking_of text) text.names q.budget)
+asked_told Reductions q bytes text = refl
+asked_told Preparations q bytes text = refl
+
+-- an answer to questions
+pub record IsAsked (what : Asked) (budget : ℕ) (bytes : List ℕ) (answer : Answer) : Type 0 where
   pub text : Text
   pub system : System
   pub questions : Polynomials
   pub spelled : system_of Questions bytes ≡ Ok text
   pub expanded : system_answer text ≡ Ok system
   pub asked_are : questions_answer text ≡ Ok questions
-  pub is : answer ≡ asked Reductions (ranking_of text) text.names budget system questions
+  pub is : answer ≡ asked what (ranking_of text) text.names budget system questions
 
-answer_asked : (q : Request) → q.verb ≡ Reduce → (bytes : List ℕ) → (answer_to q bytes).ending ≡ Done → IsAsked q.budget bytes (answer_to q bytes)
-answer_asked q verb bytes done =
-    let told = told_done q Reduce verb Questions refl bytes done in
-    let answer = asked Reductions (ranking_of told.0) told.0.names q.budget in
-    let made = done_expanded (system_answer told.0) _ (sym (ap (λ a. a.ending) told.2) ∙ done) in
-    let more = done_expanded (questions_answer told.0) (answer made.0) (sym (ap (λ a. a.ending) (told.2 ∙ made.2)) ∙ done) in
-    record { text = told.0; system = made.0; questions = more.0; spelled = told.1; expanded = made.1; asked_are = more.1; is = told.2 ∙ made.2 ∙ more.2 }
+answer_asked : (what : Asked) (q : Request) → q.verb ≡ verb_of what → (bytes : List ℕ) → (answer_to q bytes).ending ≡ Done → IsAsked what q.budget bytes (answer_to q bytes)
+answer_asked what q verb bytes done =
+    let told = told_done q (verb_of what) verb Questions (asks what) bytes done in
+    let text = told.0 in
+    let is = told.2 ∙ asked_told what q bytes text in
+    let answer = asked what (ranking_of text) text.names q.budget in
+    let made = done_expanded (system_answer text) (λ s. with_expanded (questions_answer text) (answer s)) (sym (ap (λ a. a.ending) is) ∙ done) in
+    let more = done_expanded (questions_answer text) (answer made.0) (sym (ap (λ a. a.ending) (is ∙ made.2)) ∙ done) in
+    record { text = text; system = made.0; questions = more.0; spelled = told.1; expanded = made.1; asked_are = more.1; is = is ∙ made.2 ∙ more.2 }
 
 -- the document of its tree, and the report behind it
-abbrev pub document_and_report : Text → ℕ → System → Polynomials → List ℕ
-document_and_report text budget system questions =
+abbrev pub document_and_report : Asked → Text → ℕ → System → Polynomials → List ℕ
+document_and_report what text budget system questions =
     document_of (setting_of (ranking_of text)) text.names system (tree_of text budget system)
-    ++ ended_lines (reduction_report (setting_of (ranking_of text)) text.names budget questions (tree_chains (ranking_of text) system (tree_of text budget system))).lines
+    ++ ended_lines (report_of what (setting_of (ranking_of text)) text.names budget questions (tree_chains (ranking_of text) system (tree_of text budget system))).lines
 
 -- They are its output where the tree is complete; and where it is not, the answer is that of `decompose`.
-abbrev pub IsReported : Text → ℕ → System → Polynomials → Type 0
-IsReported text budget system questions =
+abbrev pub IsReported : Asked → Text → ℕ → System → Polynomials → Type 0
+IsReported what text budget system questions =
     ((decomposed (ranking_of text) text.names budget system).ending ≡ Done)
-    × ((asked Reductions (ranking_of text) text.names budget system questions).output ≡ document_and_report text budget system questions)
+    × ((asked what (ranking_of text) text.names budget system questions).output ≡ document_and_report what text budget system questions)
 
-pub reported_or_not : (text : Text) (budget : ℕ) (system : System) (questions : Polynomials)
-    → IsReported text budget system questions
-    ⊎ (((decomposed (ranking_of text) text.names budget system).ending ≡ Done → ⊥) × (asked Reductions (ranking_of text) text.names budget system questions ≡ decomposed (ranking_of text) text.names budget system))
+pub reported_or_not : (what : Asked) (text : Text) (budget : ℕ) (system : System) (questions : Polynomials)
+    → IsReported what text budget system questions
+    ⊎ (((decomposed (ranking_of text) text.names budget system).ending ≡ Done → ⊥) × (asked what (ranking_of text) text.names budget system questions ≡ decomposed (ranking_of text) text.names budget system))
 unfolding asked worked_chains
-reported_or_not text budget system questions =
-    let report = report_answer (report_of Reductions (setting_of (ranking_of text)) text.names budget questions (worked_chains (ranking_of text) budget system)) in
+reported_or_not what text budget system questions =
+    let report = report_answer (report_of what (setting_of (ranking_of text)) text.names budget questions (worked_chains (ranking_of text) budget system)) in
     elim (continued_or (decomposed (ranking_of text) text.names budget system) report) [
       | inl both ↦ inl (both.0, both.1 ∙ ap (λ (x : List ℕ). x ++ report.output) (document_is text budget system))
       | inr first ↦ inr first
     ]
 
 -- so they are where the answer is done
-asked_output : (text : Text) (budget : ℕ) (system : System) (questions : Polynomials) → (asked Reductions (ranking_of text) text.names budget system questions).ending ≡ Done
-    → IsReported text budget system questions
-asked_output text budget system questions done = elim (reported_or_not text budget system questions) [
+asked_output : (what : Asked) (text : Text) (budget : ℕ) (system : System) (questions : Polynomials) → (asked what (ranking_of text) text.names budget system questions).ending ≡ Done
+    → IsReported what text budget system questions
+asked_output what text budget system questions done = elim (reported_or_not what text budget system questions) [
   | inl reported ↦ reported
   | inr first ↦ absurd (first.0 (sym (ap (λ a. a.ending) first.1) ∙ done))
 ]
@@ -161,6 +203,25 @@ asked_output text budget system questions done = elim (reported_or_not text budg
 -- the bytes of an input were read, where the verb has one
 pub bytes_read : (verb verb' : Verb) → verb ≡ verb' → has_input verb' ≡ true → (before after : Input) (bytes : List ℕ) → IsTaken (has_input verb) before after bytes → IsRead before after bytes
 bytes_read verb verb' v has before after bytes h = subst (λ (b : Bool). IsTaken b before after bytes) (ap has_input v ∙ has) h
+
+-- A run that asks was given an answer that is done: its input was read, and has a report.
+pub record IsAskedAndDone (what : Asked) (budget : ℕ) (before after : Input) (bytes : List ℕ) (answer : Answer) : Type 0 where
+  pub read : IsRead before after bytes
+  pub asked : IsAsked what budget bytes answer
+  pub reported : IsReported what asked.text budget asked.system asked.questions
+
+pub asked_given : (what : Asked) (words : List (List ℕ)) (before after : Input) (out out' : Output) (point : List ℕ) (request : Request) → IsWritten words request → request.verb ≡ verb_of what
+    → (given : IsGiven words before after out out' Done point) → IsAskedAndDone what request.budget before after given.answered.bytes given.answer
+asked_given what words before after out out' point request written verb given =
+    let a = given.answered in
+    let same : a.request ≡ request = one_asked words a.request request a.written written in
+    let is : answer_to request a.bytes ≡ given.answer = subst (λ (q : Request). answer_to q a.bytes ≡ given.answer) same a.is in
+    let made = subst (IsAsked what request.budget a.bytes) is (answer_asked what request verb a.bytes (ap (λ a. a.ending) is ∙ given.ends)) in
+    record {
+      read = bytes_read a.request.verb (verb_of what) (ap (λ q. q.verb) same ∙ verb) (asks_input what) before after a.bytes a.taken;
+      asked = made;
+      reported = asked_output what made.text request.budget made.system made.questions (sym (ap (λ a. a.ending) made.is) ∙ given.ends);
+    }
 
 -- ---- at a point
 module _ {E : Type 0} {o : Operations E} (laws : DomainLaws o) {c : Coordinates E} (point : IsPoint o c) where
@@ -196,8 +257,8 @@ module _ {E : Type 0} {o : Operations E} (laws : DomainLaws o) {c : Coordinates 
       run_of s (steps, e) = let n = ended_normal (setting_of (ranking_of text)) s budget f steps [] e in record { steps = steps; count = n.count; is = n.is_run }
 
   -- what is printed for a text with questions, where there is a report
-  pub asked_reduced : (before after : Input) (out out' : Output) (budget : ℕ) → budget ≤ 20000000 → (bytes : List ℕ) → IsRead before after bytes → (answer : Answer) (a : IsAsked budget bytes answer)
-      → IsReported a.text budget a.system a.questions → Appends out.written out'.written answer.output → IsReduced o c budget before after out.written out'.written
+  pub asked_reduced : (before after : Input) (out out' : Output) (budget : ℕ) → budget ≤ 20000000 → (bytes : List ℕ) → IsRead before after bytes → (answer : Answer) (a : IsAsked Reductions budget bytes answer)
+      → IsReported Reductions a.text budget a.system a.questions → Appends out.written out'.written answer.output → IsReduced o c budget before after out.written out'.written
   asked_reduced before after out out' budget most bytes read answer a output printed =
       let h = has_tree Questions bytes a.text budget a.system a.spelled most a.expanded output.0 in
       let few = (system_ranked Questions bytes a.text a.spelled).few_independents in
@@ -235,14 +296,8 @@ module _ {E : Type 0} {o : Operations E} (laws : DomainLaws o) {c : Coordinates 
   pub given_reduced : (words : List (List ℕ)) (before after : Input) (out out' : Output) (point : List ℕ) (request : Request) → IsWritten words request → request.verb ≡ Reduce
       → IsGiven words before after out out' Done point → IsReduced o c request.budget before after out.written out'.written
   given_reduced words before after out out' point request written verb given =
-      let a = given.answered in
-      let same : a.request ≡ request = one_asked words a.request request a.written written in
-      let is : answer_to request a.bytes ≡ given.answer = subst (λ (q : Request). answer_to q a.bytes ≡ given.answer) same a.is in
-      let made = answer_asked request verb a.bytes (ap (λ a. a.ending) is ∙ given.ends) in
-      let read = bytes_read a.request.verb Reduce (ap (λ q. q.verb) same ∙ verb) refl before after a.bytes a.taken in
-      let asked_is = subst (IsAsked request.budget a.bytes) is made in
-      asked_reduced before after out out' request.budget (in_range words request written).budget.1 a.bytes read given.answer asked_is
-      (asked_output asked_is.text request.budget asked_is.system asked_is.questions (sym (ap (λ a. a.ending) asked_is.is) ∙ given.ends)) given.printed
+      let a = asked_given Reductions words before after out out' point request written verb given in
+      asked_reduced before after out out' request.budget (in_range words request written).budget.1 given.answered.bytes a.read given.answer a.asked a.reported given.printed
 
 -- a run that ends with status 0 is given, and is done
 pub zero_given : (words : List (List ℕ)) (before after : Input) (out out' : Output) (ending : Ending) (point : List ℕ) → Ends words before after out out' ending point → status_of ending ≡ 0 → IsGiven words before after out out' Done point

@@ -1,12 +1,12 @@
 // The top call.
 ghost use Rattle.std.specs.Prelude.{◌≡◌, ◌⊎◌, ℕ, List, true, false, map, string_bytes, IfOk, IfErr};
 ghost use Rattle.dz_words.specs.Words.{IsWritten};
-ghost use Rattle.dz_words.specs.declared.verbs.Verb.TheVariants.{Check, Decompose, Parametric, Reduce};
+ghost use Rattle.dz_words.specs.declared.verbs.Verb.TheVariants.{Check, Decompose, Parametric, Prepare, Reduce};
 ghost use Rattle.dz_words.specs.declared.words.Request.{Request};
 ghost use Rattle.dz_run.specs.Answer.{answer_of};
 ghost use Rattle.dz_run.specs.Ending.{IsSilent, message_of, status_of};
-ghost use Rattle.dz_run.specs.Headline.{HasCones, IsDecomposed, IsReduced};
-ghost use Rattle.dz_run.specs.Headline.{IsAcceptedInput, IsPartialInput, IsUnreported};
+ghost use Rattle.dz_run.specs.Headline.{HasCones, IsDecomposed, IsPrepared, IsReduced};
+ghost use Rattle.dz_run.specs.Headline.{IsAcceptedInput, IsPartialInput, IsPartlyDecomposed, IsRefusedSystem, IsUnreported};
 ghost use Rattle.dz_run.specs.Run.{Ends, IsAnswered, IsReadStop, IsReading, IsTaken, IsTold};
 ghost use Rattle.dz_run.specs.Run.{Output, WritesAnswer};
 ghost use Rattle.dz_run.specs.Verbs.{has_input};
@@ -147,6 +147,14 @@ pub fn blad_run<D: Domain, S: Source, K: Sink, L: Sink>(
         → request.verb ≡ Decompose → IsDecomposed D.operations at.now request.budget
         (record { rest = S.rest input.old; faults = S.faults input.old })
         (record { rest = S.rest input.new; faults = S.faults input.new }) (K.written out.old) (K.written out.new) }
+    // Where it ends with the status 4, 5 or 6, an item is refused, or the output is the document of a certified tree with an open
+    // end: the system has the solutions of its chains and open ends together.
+    ensures partly { (result ≡ 4) ⊎ ((result ≡ 5) ⊎ (result ≡ 6)) → (request : Request) → IsWritten (map string_bytes words.now) request
+        → request.verb ≡ Decompose → IsPartlyDecomposed D.operations at.now request.budget
+        (record { rest = S.rest input.old; faults = S.faults input.old })
+        (record { rest = S.rest input.new; faults = S.faults input.new }) (K.written out.old) (K.written out.new)
+        ⊎ IsRefusedSystem (record { rest = S.rest input.old; faults = S.faults input.old })
+        (record { rest = S.rest input.new; faults = S.faults input.new }) (K.written out.old) (K.written out.new) }
     // Where `check` ends with status 0, the input is a system and the document of a certified tree for it. With `accepted` the tree
     // is complete, and means what that of `decompose` does; with `partial` the system has the solutions of the chains and open ends
     // together.
@@ -167,6 +175,19 @@ pub fn blad_run<D: Domain, S: Source, K: Sink, L: Sink>(
     // an item is refused, or the tree has an open end.
     ensures vanishing_told { (result ≡ 4) ⊎ ((result ≡ 5) ⊎ (result ≡ 6)) → (request : Request) → IsWritten (map string_bytes words.now) request
         → request.verb ≡ Reduce → IsReduced D.operations at.now request.budget
+        (record { rest = S.rest input.old; faults = S.faults input.old })
+        (record { rest = S.rest input.new; faults = S.faults input.new }) (K.written out.old) (K.written out.new)
+        ⊎ IsUnreported request.budget (record { rest = S.rest input.old; faults = S.faults input.old })
+        (record { rest = S.rest input.new; faults = S.faults input.new }) (K.written out.old) (K.written out.new) }
+    // Where `prepare` ends with status 0, its output is such a document, and the report of the preparations of the questions by its
+    // chains. Each identity that is printed holds; also where the status is 4, 5 or 6, of those that are printed before the
+    // report stops.
+    ensures prepared { result ≡ 0 → (request : Request) → IsWritten (map string_bytes words.now) request
+        → request.verb ≡ Prepare → IsPrepared request.budget
+        (record { rest = S.rest input.old; faults = S.faults input.old })
+        (record { rest = S.rest input.new; faults = S.faults input.new }) (K.written out.old) (K.written out.new) }
+    ensures prepared_told { (result ≡ 4) ⊎ ((result ≡ 5) ⊎ (result ≡ 6)) → (request : Request) → IsWritten (map string_bytes words.now) request
+        → request.verb ≡ Prepare → IsPrepared request.budget
         (record { rest = S.rest input.old; faults = S.faults input.old })
         (record { rest = S.rest input.new; faults = S.faults input.new }) (K.written out.old) (K.written out.new)
         ⊎ IsUnreported request.budget (record { rest = S.rest input.old; faults = S.faults input.old })
