@@ -1,11 +1,9 @@
 // The answer of `sample`.
 ghost use Rattle.std.specs.List.{AllByRecursion};
 ghost use Rattle.std.specs.Prelude.{◌≡◌, ◌≤◌, IfOk, map};
-ghost use Rattle.dz_diff.specs.Operations.{setting_of};
 ghost use Rattle.dz_diff.specs.States.{state_in};
 ghost use Rattle.dz_poly.specs.Books.{BookValue};
 ghost use Rattle.dz_tree.specs.Belonging.{IsLineOf};
-ghost use Rattle.dz_check.specs.Certified.{IsCertified};
 ghost use Rattle.dz_move.specs.Systems.{IsSystemIn, system_in};
 ghost use Rattle.dz_check.specs.Verdicts.{verdict_as};
 ghost use Rattle.dz_run.specs.Answer.{answer_of};
@@ -13,7 +11,7 @@ ghost use Rattle.dz_run.specs.Sampled.{is_accepted, member_count, sampled, summa
 
 use crate::decomposing::lines_ending;
 use crate::told::Told;
-use dz_check::{Verdict, chains, check};
+use dz_check::{Verdict, check_with_chains};
 use dz_diff::State;
 use dz_engine::decompose;
 use dz_move::System;
@@ -53,22 +51,19 @@ fn summary_of(
     tree: &Tree,
 ) -> Result<Summary, AllocError>
     requires system { IsSystemIn book.old system.now }
-    requires certified { IsCertified (setting_of book.old.ranking)
-        (system_in book.old system.now) tree.now }
     requires belong { AllByRecursion (λ line. IsLineOf book.old.ranking.signature line)
         tree.now.lines }
     ensures { IfOk result (λ summary. summary
         ≡ summary_of book.old.ranking seed size (system_in book.old system.now) tree.now) }
 {
-    let verdict = check(alloc, book, system, tree)?;
-    let chains = chains(alloc, book, system, tree)?;
+    let checked = check_with_chains(alloc, book, system, tree)?;
     Ok(Summary {
         seed,
         size,
         equations: system.equations().len(),
-        chains: chains.len(),
-        members: member_count(&chains),
-        is_complete: is_accepted(verdict),
+        chains: checked.chains.len(),
+        members: member_count(&checked.chains),
+        is_complete: is_accepted(checked.verdict),
     })
 }
 

@@ -3,11 +3,7 @@ use Rattle.dz_poly.specs.Books.{BookValue}
 use Rattle.dz_sample.specs.Ranking.{sample_ranking}
 use Rattle.dz_run.specs.Decomposed.{lines_ending}
 use Rattle.dz_run.proofs.SampledTrees.{sampled_is}
-use Rattle.dz_run.proofs.WorkedDocuments.{worked_certified}
 use Rattle.dz_run.proofs.sampling.sampled.Goals as goal
-
-pub summary_of-requires-clause-certified : goal.summary_of-requires-clause-certified
-summary_of-requires-clause-certified c = worked_certified c.sample_system.new.book c.decompose.new.book c.in_ok-tree.ensures.book c.in_ok-system.system c.in_ok-tree.tree c.in_ok-tree.ensures.worked
 
 pub returns : goal.returns
 returns c =
